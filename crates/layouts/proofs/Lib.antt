@@ -1,0 +1,7 @@
+pub mod Fields
+pub mod Answers
+pub mod Tables
+pub mod Copies
+pub mod Readers
+pub mod Kroot
+pub mod Pkr

@@ -1,0 +1,19 @@
+-- `bits::joined`: nothing is shifted out, and the two share no bit.
+-- Assumes nothing.
+use mathlib.Core.Path.{ap, _∙_}
+use Prim.Native.Nat.{ℕ}
+use native.Mathlib.Nat.{mod-eq-of-lt}
+use lib.Bits.{bitOr, or-shifted}
+use borrow.Author.Needs.{needs}
+use Rattle.layouts.proofs.bits.joined.Statement.{statement}
+use Rattle.layouts.proofs.bits.joined.Tie as tie
+
+shl-result : tie.Need-shl-result
+shl-result c = search needs
+
+returns : tie.Need-returns
+returns c =
+    ap (λ (x : ℕ). bitOr x (c .args .low)) (mod-eq-of-lt (c .pre .2)) ∙ or-shifted (c .args .high) (c .args .n) (c .args .low) (c .pre .1)
+
+pub joined-spec : {M : Type 1} → statement M
+joined-spec = tie.close (tie.spec shl-result returns)

@@ -1,0 +1,9 @@
+pub mod Answer
+pub mod Bits
+pub mod Sizes
+pub mod Meaning
+pub mod Readers
+pub mod NmaHeader
+pub mod DsmHeader
+pub mod DsmKroot
+pub mod DsmPkr
