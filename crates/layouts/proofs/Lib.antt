@@ -5,3 +5,4 @@ pub mod Copies
 pub mod Readers
 pub mod Kroot
 pub mod Pkr
+pub mod Unique

@@ -1,0 +1,288 @@
+-- Two answers that meet a promise agree: `meaning` tells the code's cases apart, and each promise is one equation.
+-- Assumes nothing.
+use mathlib.Core.Path.{_≡_, refl, sym, ap, ap₂, _∙_}
+use mathlib.Core.List.{List, [], _∷_}
+use mathlib.Core.Bool.{cond}
+use Prim.Native.Nat.{ℕ}
+use lib.ListN.{getD}
+use lib.Dec.{eqb}
+use Rattle.layouts.specs.Answer.{Answer, refused, nothing, gives, Copied}
+use Rattle.layouts.specs.Meaning.{meaning-number, meaning-part, meaning-status, meaning-chain-status, meaning-type, meaning-hash, meaning-mac, meaning-ecdsa, meaning-key-type}
+use Rattle.layouts.specs.Readers.{ReadBits}
+use Rattle.layouts.specs.NmaHeader.{NmaStatusRead, ChainIdRead, ChainAndPubkeyStatusRead}
+use Rattle.layouts.specs.DsmHeader.{DsmIdRead, DsmBlockIdRead, DsmTypeRead}
+use Rattle.layouts.specs.DsmKroot as kroot
+use Rattle.layouts.specs.DsmPkr as pkr
+use Rattle.layouts.specs.declared.answer.Number.{Number}
+use Rattle.layouts.specs.declared.answer.Number.the-variants.{Value, Refused}
+use Rattle.layouts.specs.declared.answer.Part.{Part}
+use Rattle.layouts.specs.declared.answer.Part.the-variants.{Shown, Refused as NotShown}
+use Rattle.layouts.specs.declared.nma_header.NmaStatus.{NmaStatus}
+use Rattle.layouts.specs.declared.nma_header.NmaStatus.the-variants.{Reserved as StatusReserved, Test, Operational, DontUse}
+use Rattle.layouts.specs.declared.nma_header.ChainAndPubkeyStatus.{ChainAndPubkeyStatus}
+use Rattle.layouts.specs.declared.nma_header.ChainAndPubkeyStatus.the-variants.{Reserved, Nominal, EndOfChain, ChainRevoked, NewPublicKey, PublicKeyRevoked, NewMerkleTree, AlertMessage}
+use Rattle.layouts.specs.declared.dsm_header.DsmType.{DsmType}
+use Rattle.layouts.specs.declared.dsm_header.DsmType.the-variants.{Kroot, Pkr}
+use Rattle.layouts.specs.declared.dsm_kroot.HashFunction.{HashFunction}
+use Rattle.layouts.specs.declared.dsm_kroot.HashFunction.the-variants.{Sha256, «Sha3_256», Reserved as HashReserved}
+use Rattle.layouts.specs.declared.dsm_kroot.HashFunctionAnswer.{HashFunctionAnswer}
+use Rattle.layouts.specs.declared.dsm_kroot.HashFunctionAnswer.the-variants.{Function as HashIs, Refused as HashRefused}
+use Rattle.layouts.specs.declared.dsm_kroot.MacFunction.{MacFunction}
+use Rattle.layouts.specs.declared.dsm_kroot.MacFunction.the-variants.{HmacSha256, CmacAes, Reserved as MacReserved}
+use Rattle.layouts.specs.declared.dsm_kroot.MacFunctionAnswer.{MacFunctionAnswer}
+use Rattle.layouts.specs.declared.dsm_kroot.MacFunctionAnswer.the-variants.{Function as MacIs, Refused as MacRefused}
+use Rattle.layouts.specs.declared.dsm_kroot.EcdsaFunction.{EcdsaFunction}
+use Rattle.layouts.specs.declared.dsm_kroot.EcdsaFunction.the-variants.{P256Sha256, P521Sha512}
+use Rattle.layouts.specs.declared.dsm_kroot.EcdsaFunctionAnswer.{EcdsaFunctionAnswer}
+use Rattle.layouts.specs.declared.dsm_kroot.EcdsaFunctionAnswer.the-variants.{Function as EcdsaIs, Refused as EcdsaRefused}
+use Rattle.layouts.specs.declared.dsm_pkr.NewPublicKeyType.{NewPublicKeyType}
+use Rattle.layouts.specs.declared.dsm_pkr.NewPublicKeyType.the-variants.{EcdsaKey, OsnmaAlertMessage, Reserved as TypeReserved}
+use Rattle.layouts.specs.declared.dsm_pkr.NewPublicKeyTypeAnswer.{NewPublicKeyTypeAnswer}
+use Rattle.layouts.specs.declared.dsm_pkr.NewPublicKeyTypeAnswer.the-variants.{KeyType as TypeIs, Refused as TypeRefused}
+use Rattle.layouts.specs.declared.dsm_pkr.TreeNode.{TreeNode}
+
+-- whatever meets the promise is the same
+abbrev pub Agree : {A : Type 0} → (A → Type 0) → Type 0
+Agree {A} Promise = (r s : A) → Promise r → Promise s → r ≡ s
+
+-- `back` undoes `meaning`, so two answers of one meaning are equal
+by-meaning : {A : Type 0} (meaning : A → Answer) (back : Answer → A) → ((r : A) → back (meaning r) ≡ r) → (a : Answer) → Agree (λ r. meaning r ≡ a)
+by-meaning meaning back undo a r s p q = sym (undo r) ∙ ap back (p ∙ sym q) ∙ undo s
+
+-- a number of the paper, by its place in a list of the code's cases
+abbrev named : {A : Type 0} → List A → A → Answer → A
+named cases other (refused n) = other
+named cases other nothing = other
+named cases other (gives []) = other
+named cases other (gives (v ∷ vs)) = getD cases v other
+
+-- the same, where it may be refused
+abbrev answer : {A : Type 0} → (ℕ → A) → A → (List ℕ → A) → Answer → A
+answer refuse other given (refused n) = refuse n
+answer refuse other given nothing = other
+answer refuse other given (gives l) = given l
+
+abbrev one : {A : Type 0} → (ℕ → A) → A → List ℕ → A
+one f other [] = other
+one f other (v ∷ vs) = f v
+
+abbrev two : {A : Type 0} → (ℕ → ℕ → A) → A → List ℕ → A
+two f other [] = other
+two f other (v ∷ []) = other
+two f other (v ∷ w ∷ vs) = f v w
+
+abbrev back-number : Answer → Number
+back-number = answer Refused (Refused 0) (one Value (Refused 0))
+
+undo-number : (r : Number) → back-number (meaning-number r) ≡ r
+undo-number (Value v) = refl
+undo-number (Refused n) = refl
+
+pub numbers : (a : Answer) → Agree (λ r. meaning-number r ≡ a)
+numbers = by-meaning meaning-number back-number undo-number
+
+abbrev back-part : Answer → Part
+back-part = answer NotShown (NotShown 0) (two Shown (NotShown 0))
+
+undo-part : (r : Part) → back-part (meaning-part r) ≡ r
+undo-part (Shown f n) = refl
+undo-part (NotShown n) = refl
+
+pub parts : (a : Answer) → Agree (λ r. meaning-part r ≡ a)
+parts = by-meaning meaning-part back-part undo-part
+
+abbrev back-status : Answer → NmaStatus
+back-status = named (StatusReserved ∷ Test ∷ Operational ∷ DontUse ∷ []) StatusReserved
+
+undo-status : (r : NmaStatus) → back-status (meaning-status r) ≡ r
+undo-status StatusReserved = refl
+undo-status Test = refl
+undo-status Operational = refl
+undo-status DontUse = refl
+
+abbrev back-chain-status : Answer → ChainAndPubkeyStatus
+back-chain-status = named (Reserved ∷ Nominal ∷ EndOfChain ∷ ChainRevoked ∷ NewPublicKey ∷ PublicKeyRevoked ∷ NewMerkleTree ∷ AlertMessage ∷ []) Reserved
+
+undo-chain-status : (r : ChainAndPubkeyStatus) → back-chain-status (meaning-chain-status r) ≡ r
+undo-chain-status Reserved = refl
+undo-chain-status Nominal = refl
+undo-chain-status EndOfChain = refl
+undo-chain-status ChainRevoked = refl
+undo-chain-status NewPublicKey = refl
+undo-chain-status PublicKeyRevoked = refl
+undo-chain-status NewMerkleTree = refl
+undo-chain-status AlertMessage = refl
+
+abbrev back-type : Answer → DsmType
+back-type = named (Kroot ∷ Pkr ∷ []) Kroot
+
+undo-type : (r : DsmType) → back-type (meaning-type r) ≡ r
+undo-type Kroot = refl
+undo-type Pkr = refl
+
+abbrev back-hash : Answer → HashFunctionAnswer
+back-hash = answer HashRefused (HashRefused 0) (one (λ v. (cond (eqb v 0) (HashIs Sha256) (cond (eqb v 2) (HashIs «Sha3_256») (HashIs HashReserved)))) (HashIs HashReserved))
+
+undo-hash : (r : HashFunctionAnswer) → back-hash (meaning-hash r) ≡ r
+undo-hash (HashIs Sha256) = refl
+undo-hash (HashIs «Sha3_256») = refl
+undo-hash (HashIs HashReserved) = refl
+undo-hash (HashRefused n) = refl
+
+abbrev back-mac : Answer → MacFunctionAnswer
+back-mac = answer MacRefused (MacRefused 0) (one (λ v. (cond (eqb v 0) (MacIs HmacSha256) (cond (eqb v 1) (MacIs CmacAes) (MacIs MacReserved)))) (MacIs MacReserved))
+
+undo-mac : (r : MacFunctionAnswer) → back-mac (meaning-mac r) ≡ r
+undo-mac (MacIs HmacSha256) = refl
+undo-mac (MacIs CmacAes) = refl
+undo-mac (MacIs MacReserved) = refl
+undo-mac (MacRefused n) = refl
+
+abbrev back-ecdsa : Answer → EcdsaFunctionAnswer
+back-ecdsa = answer EcdsaRefused (EcdsaRefused 0) (one (λ v. (cond (eqb v 256) (EcdsaIs P256Sha256) (EcdsaIs P521Sha512))) (EcdsaIs P521Sha512))
+
+undo-ecdsa : (r : EcdsaFunctionAnswer) → back-ecdsa (meaning-ecdsa r) ≡ r
+undo-ecdsa (EcdsaIs P256Sha256) = refl
+undo-ecdsa (EcdsaIs P521Sha512) = refl
+undo-ecdsa (EcdsaRefused n) = refl
+
+abbrev back-key-type : Answer → NewPublicKeyTypeAnswer
+back-key-type = answer TypeRefused (TypeRefused 0) (one (λ v. (cond (eqb v 1) (TypeIs (EcdsaKey P256Sha256)) (cond (eqb v 3) (TypeIs (EcdsaKey P521Sha512)) (cond (eqb v 4) (TypeIs OsnmaAlertMessage) (TypeIs TypeReserved))))) (TypeIs TypeReserved))
+
+undo-key-type : (r : NewPublicKeyTypeAnswer) → back-key-type (meaning-key-type r) ≡ r
+undo-key-type (TypeIs (EcdsaKey P256Sha256)) = refl
+undo-key-type (TypeIs (EcdsaKey P521Sha512)) = refl
+undo-key-type (TypeIs OsnmaAlertMessage) = refl
+undo-key-type (TypeIs TypeReserved) = refl
+undo-key-type (TypeRefused n) = refl
+
+-- what is no enum is the equation's right side
+pub plain : {A : Type 0} (a : A) → Agree (λ r. r ≡ a)
+plain a r s p q = p ∙ sym q
+
+abbrev node : Part → List ℕ → TreeNode
+node a b = record { answer = a; bytes = b }
+
+-- Every public function, in the order of the files.
+pub read-bits : (m : List ℕ) (start width : ℕ) → Agree (ReadBits m start width)
+read-bits m start width = numbers _
+
+pub nma-status : (header : ℕ) → Agree (NmaStatusRead header)
+nma-status header = by-meaning meaning-status back-status undo-status _
+
+pub chain-id : (header : ℕ) → Agree (ChainIdRead header)
+chain-id header = plain _
+
+pub chain-and-pubkey-status : (header : ℕ) → Agree (ChainAndPubkeyStatusRead header)
+chain-and-pubkey-status header = by-meaning meaning-chain-status back-chain-status undo-chain-status _
+
+pub dsm-id : (header : ℕ) → Agree (DsmIdRead header)
+dsm-id header = plain _
+
+pub dsm-block-id : (header : ℕ) → Agree (DsmBlockIdRead header)
+dsm-block-id header = plain _
+
+pub dsm-type : (header : ℕ) → Agree (DsmTypeRead header)
+dsm-type header = by-meaning meaning-type back-type undo-type _
+
+module _ (m : List ℕ) where
+  pub kroot-number-of-blocks : Agree (kroot.NumberOfBlocks m)
+  kroot-number-of-blocks = numbers _
+
+  pub kroot-public-key-id : Agree (kroot.PublicKeyId m)
+  kroot-public-key-id = numbers _
+
+  pub kroot-chain-id : Agree (kroot.KrootChainId m)
+  kroot-chain-id = numbers _
+
+  pub kroot-hash-function-number : Agree (kroot.HashFunctionNumber m)
+  kroot-hash-function-number = numbers _
+
+  pub kroot-hash-function : Agree (kroot.HashFunctionRead m)
+  kroot-hash-function = by-meaning meaning-hash back-hash undo-hash _
+
+  pub kroot-mac-function-number : Agree (kroot.MacFunctionNumber m)
+  kroot-mac-function-number = numbers _
+
+  pub kroot-mac-function : Agree (kroot.MacFunctionRead m)
+  kroot-mac-function = by-meaning meaning-mac back-mac undo-mac _
+
+  pub kroot-key-size : Agree (kroot.KeySize m)
+  kroot-key-size = numbers _
+
+  pub kroot-tag-size : Agree (kroot.TagSize m)
+  kroot-tag-size = numbers _
+
+  pub kroot-mac-lookup-table : Agree (kroot.MacLookupTable m)
+  kroot-mac-lookup-table = numbers _
+
+  pub kroot-wn : Agree (kroot.KrootWn m)
+  kroot-wn = numbers _
+
+  pub kroot-towh : Agree (kroot.KrootTowh m)
+  kroot-towh = numbers _
+
+  pub kroot-alpha : Agree (kroot.Alpha m)
+  kroot-alpha = numbers _
+
+  pub kroot-ecdsa-function : Agree (kroot.EcdsaFunctionRead m)
+  kroot-ecdsa-function = by-meaning meaning-ecdsa back-ecdsa undo-ecdsa _
+
+  pub kroot-shown : Agree (kroot.KrootShown m)
+  kroot-shown = parts _
+
+  pub kroot-bytes : Agree (kroot.Kroot m)
+  kroot-bytes = plain _
+
+  pub kroot-digital-signature-shown : Agree (kroot.DigitalSignatureShown m)
+  kroot-digital-signature-shown = parts _
+
+  pub kroot-digital-signature : Agree (kroot.DigitalSignature m)
+  kroot-digital-signature = plain _
+
+  pub kroot-padding-shown : Agree (kroot.PaddingShown m)
+  kroot-padding-shown = parts _
+
+  pub kroot-padding : Agree (kroot.Padding m)
+  kroot-padding = plain _
+
+  pub pkr-number-of-blocks : Agree (pkr.NumberOfBlocks m)
+  pkr-number-of-blocks = numbers _
+
+  pub pkr-message-id : Agree (pkr.MessageId m)
+  pkr-message-id = numbers _
+
+  pub pkr-new-public-key-type-number : Agree (pkr.NewPublicKeyTypeNumber m)
+  pkr-new-public-key-type-number = numbers _
+
+  pub pkr-new-public-key-type : Agree (pkr.NewPublicKeyTypeRead m)
+  pkr-new-public-key-type = by-meaning meaning-key-type back-key-type undo-key-type _
+
+  pub pkr-new-public-key-id : Agree (pkr.NewPublicKeyId m)
+  pkr-new-public-key-id = numbers _
+
+  pub pkr-key-size : Agree (pkr.KeySize m)
+  pkr-key-size = numbers _
+
+  pub pkr-new-public-key-shown : Agree (pkr.NewPublicKeyShown m)
+  pkr-new-public-key-shown = parts _
+
+  pub pkr-new-public-key : Agree (pkr.NewPublicKey m)
+  pkr-new-public-key = plain _
+
+  pub pkr-merkle-tree-leaf-shown : Agree (pkr.MerkleTreeLeafShown m)
+  pkr-merkle-tree-leaf-shown = parts _
+
+  pub pkr-merkle-tree-leaf : Agree (pkr.MerkleTreeLeaf m)
+  pkr-merkle-tree-leaf = plain _
+
+  pub pkr-padding-shown : Agree (pkr.PaddingShown m)
+  pkr-padding-shown = parts _
+
+  pub pkr-padding : Agree (pkr.Padding m)
+  pkr-padding = plain _
+
+  pub pkr-intermediate-tree-node : (n : ℕ) → Agree (pkr.IntermediateTreeNode m n)
+  pkr-intermediate-tree-node n r s p q =
+      let e : _≡_ {A = Copied} (record { answer = meaning-part (r .answer); bytes = r .bytes }) (record { answer = meaning-part (s .answer); bytes = s .bytes }) = p ∙ sym q in
+      ap₂ node (parts _ (r .answer) (s .answer) (ap (λ (c : Copied). c .answer) e) refl) (ap (λ (c : Copied). c .bytes) e)
