@@ -1,6 +1,6 @@
 -- Laws of checks and answers.
 -- Assumes nothing.
-use mathlib.Core.Path.{_≡_, refl, sym, ap, _∙_, subst}
+use mathlib.Core.Path.{_≡_, refl, ap, _∙_, subst}
 use mathlib.Core.List.{List, [], _∷_, _++_}
 use mathlib.Core.Bool.{Bool, true, false, cond}
 use Prim.Native.Nat.{ℕ, zero, suc, _+_, _≤_}
@@ -9,9 +9,7 @@ use lib.ListN.{take, drop, replicate}
 use lib.Dec.{T, ltb, eqb, eqb·suc-zero}
 use borrow.Author.Tests.{lt-ltb, le-ltb, lt-leb, le-leb, eq-eqb, ne-eqb}
 use Rattle.layouts.specs.Readers.{Inside}
-use Rattle.layouts.specs.Meaning.{meaning-number, meaning-part}
-use Rattle.layouts.specs.declared.answer.Number.{Number}
-use Rattle.layouts.specs.declared.answer.Number.the-variants.{Value, Refused}
+use Rattle.layouts.specs.Meaning.{meaning-part}
 use Rattle.layouts.specs.declared.answer.Part.{Part}
 use Rattle.layouts.specs.declared.answer.Part.the-variants.{Shown, Refused as NotShown}
 use Rattle.layouts.specs.Answer.{shown, Copied, copied, Answer, refused, gives, Check, _when_, refusal, answered}

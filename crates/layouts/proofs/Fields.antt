@@ -1,6 +1,6 @@
 -- Laws of `field`, for every start and every width.
 -- Assumes nothing.
-use mathlib.Core.Path.{_≡_, refl, sym, ap, _∙_}
+use mathlib.Core.Path.{_≡_, sym, ap, _∙_}
 use mathlib.Core.List.{List, [], _∷_}
 use Prim.Native.Nat.{ℕ, zero, suc, _+_, _-_, _*_, _/_, _%_, _^_, _≤_, _<_}
 use native.Mathlib.Nat.{zero-add, div-one, lt-of-lt-of-le, add-zero, add-suc, add-assoc, mul-assoc, mul-one, pow-zero, pow-suc, mod-one, one-mul, mod-eq-of-lt}

@@ -1,15 +1,15 @@
 -- Laws of the parts of a DSM-KROOT message.
 -- Assumes nothing.
-use mathlib.Core.Path.{_≡_, refl, sym, ap, _∙_, subst}
+use mathlib.Core.Path.{_≡_, refl, sym, ap, _∙_}
 use mathlib.Core.List.{List, [], _∷_, _++_}
 use mathlib.Core.Bool.{Bool, true, false, cond}
-use Prim.Native.Nat.{ℕ, _+_, _-_, _/_, _%_, _≤_, _<_}
+use Prim.Native.Nat.{ℕ, _+_, _-_, _/_, _≤_, _<_}
 use native.Mathlib.Omega.{arith}
-use lib.Dec.{T, ltb, leb, eqb, leb→le}
+use lib.Dec.{ltb, leb, eqb, leb→le}
 use lib.ListN.{length}
-use borrow.Author.Tests.{ltb-false, eqb-true, eqb-false, lt-ltb, le-ltb, eq-eqb, ne-eqb}
+use borrow.Author.Tests.{ltb-false, eqb-true, eqb-false, le-ltb, eq-eqb, ne-eqb}
 use Rattle.layouts.specs.Answer.{Answer, refused, gives, _when_, refusal, answered, part}
-use Rattle.layouts.specs.Bits.{the, value, read}
+use Rattle.layouts.specs.Bits.{the, value}
 use Rattle.layouts.specs.Sizes.{size, keySizes, ecdsaFunctions, readSize}
 use Rattle.layouts.specs.DsmKroot.{krootLayout, keyBytes, keyChecks, krootPart, padding-to-block, signature-length, signatureBytes, signatureChecks, signaturePart, ecdsaFunction, paddingPart}
 use Rattle.layouts.specs.Meaning.{meaning-number, meaning-part}

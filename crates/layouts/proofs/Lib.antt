@@ -5,4 +5,5 @@ pub mod Copies
 pub mod Readers
 pub mod Kroot
 pub mod Pkr
+pub mod Layouts
 pub mod Unique

@@ -1,22 +1,22 @@
 -- Laws of the parts of a DSM-PKR message.
 -- Assumes nothing.
 use mathlib.Core.Path.{_≡_, refl, sym, ap, _∙_}
-use mathlib.Core.List.{List, [], _∷_, _++_}
+use mathlib.Core.List.{List, [], _∷_}
 use mathlib.Core.Bool.{Bool, true, false, cond}
 use Prim.Native.Nat.{ℕ, _+_, _-_, _*_, _≤_, _<_}
 use native.Mathlib.Omega.{arith}
-use lib.Dec.{T, ltb, leb, eqb, leb→le}
+use lib.Dec.{leb, eqb, leb→le}
 use lib.ListN.{length}
 use borrow.Author.Tests.{ltb-false, eqb-true, lt-ltb, le-ltb, eq-eqb, ne-eqb}
-use Rattle.layouts.specs.Answer.{Answer, refused, gives, _when_, refusal, answered, part}
+use Rattle.layouts.specs.Answer.{Answer, refused, gives, part}
 use Rattle.layouts.specs.Bits.{the, value, read, reach}
 use Rattle.layouts.specs.Sizes.{size, pkrBlocks, readSize}
 use Rattle.layouts.specs.DsmPkr.{pkrLayout, nodePart, newKeySizes, count, keyBytes, keyChecks, newKeyPart, leafPart, paddingPart}
-use Rattle.layouts.specs.Meaning.{meaning-number, meaning-part}
+use Rattle.layouts.specs.Meaning.{meaning-number}
 use Rattle.layouts.specs.declared.answer.Number.{Number}
 use Rattle.layouts.specs.declared.answer.Number.the-variants.{Value, Refused}
 use Rattle.layouts.proofs.Answers.{stop, pass, done, refused-too, passed, converse, answer-of}
-use Rattle.layouts.proofs.Readers.{first-of, read-value, size-given, size-reserved, size-refused}
+use Rattle.layouts.proofs.Readers.{first-of, size-given, size-reserved}
 use Rattle.layouts.proofs.Fields.{field-lt}
 use Rattle.layouts.proofs.Tables.{holds-below}
 

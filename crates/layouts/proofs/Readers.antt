@@ -1,14 +1,13 @@
 -- Laws of the readers' answers, for their callers.
 -- Assumes nothing.
-use mathlib.Core.Path.{_≡_, refl, sym, ap, _∙_}
+use mathlib.Core.Path.{_≡_, refl, ap, _∙_}
 use mathlib.Core.List.{List, [], _∷_, _++_}
-use mathlib.Core.Bool.{Bool, true, false}
-use Prim.Native.Nat.{ℕ, _+_, _*_, _^_, _≤_, _<_}
+use Prim.Native.Nat.{ℕ, _+_, _^_, _≤_, _<_}
 use Prim.Native.String.{String}
 use lib.Dec.{T, ltb, eqb}
 use lib.ListN.{length}
 use borrow.Author.Tests.{ltb-false, lt-ltb, le-ltb, eq-eqb, ne-eqb}
-use Rattle.layouts.specs.Answer.{Answer, refused, gives, Check, _when_, refusal, answered, part}
+use Rattle.layouts.specs.Answer.{refused, gives, Check, _when_, refusal, part}
 use Rattle.layouts.specs.Bits.{Field, value, reach, read}
 use Rattle.layouts.specs.Sizes.{readSize, Named, _named_, naming, readName}
 use Rattle.layouts.specs.Meaning.{meaning-number, meaning-part}

@@ -3,7 +3,7 @@
 use Prim.Native.Nat.{ℕ, zero, suc, _+_, _-_, _*_, _/_, _%_, _^_}
 use Prim.Native.String.{String}
 use mathlib.Core.List.{List, [], _∷_}
-use mathlib.Core.Bool.{cond}
+use mathlib.Core.Bool.{Bool, false, cond}
 use lib.ListN.{length, getD}
 use lib.Dec.{ltb, eqb}
 use lib.Text.{eqt}
@@ -31,6 +31,11 @@ row n f w = record { name = n; first = f; width = w }
 abbrev pub the : String → List Field → Field
 the n [] = row "" 0 0
 the n (f ∷ fs) = cond (eqt n (f .name)) f (the n fs)
+
+-- the rows follow one another without a gap, from one bit to another
+abbrev pub gapless : ℕ → List Field → ℕ → Bool
+gapless from [] to = eqb from to
+gapless from (f ∷ fs) to = cond (eqb from (f .first)) (gapless (from + f .width) fs to) false
 
 -- what a field says
 abbrev pub value : Field → List ℕ → ℕ

@@ -3,7 +3,6 @@
 use Prim.Native.Nat.{ℕ, _+_, _-_, _*_}
 use mathlib.Core.List.{List, [], _∷_, _++_}
 use mathlib.Core.Path.{_≡_}
-use lib.ListN.{length}
 use lib.Dec.{ltb, eqb}
 use Rattle.layouts.specs.Answer.{Answer, Check, _when_, part, shown, Copied, copied}
 use Rattle.layouts.specs.Bits.{Field, row, the, value, reach, read}

@@ -7,3 +7,4 @@ pub mod NmaHeader
 pub mod DsmHeader
 pub mod DsmKroot
 pub mod DsmPkr
+pub mod Layouts

@@ -1,8 +1,7 @@
 -- The paper's number and values for each case of the code's enums. The definitions name the code's types only here and in the promises.
 -- A Reserved hash or MAC function, or key type, stands for several numbers, so it has none of its own.
 -- Assumes nothing.
-use Prim.Native.Nat.{ℕ}
-use mathlib.Core.List.{List, [], _∷_}
+use mathlib.Core.List.{[], _∷_}
 use Rattle.layouts.specs.Answer.{Answer, refused, gives}
 use Rattle.layouts.specs.declared.answer.Number.{Number}
 use Rattle.layouts.specs.declared.answer.Number.the-variants.{Value, Refused}
@@ -14,19 +13,15 @@ use Rattle.layouts.specs.declared.nma_header.ChainAndPubkeyStatus.{Chain
 use Rattle.layouts.specs.declared.nma_header.ChainAndPubkeyStatus.the-variants.{Reserved, Nominal, EndOfChain, ChainRevoked, NewPublicKey, PublicKeyRevoked, NewMerkleTree, AlertMessage}
 use Rattle.layouts.specs.declared.dsm_header.DsmType.{DsmType}
 use Rattle.layouts.specs.declared.dsm_header.DsmType.the-variants.{Kroot, Pkr}
-use Rattle.layouts.specs.declared.dsm_kroot.HashFunction.{HashFunction}
 use Rattle.layouts.specs.declared.dsm_kroot.HashFunction.the-variants.{Sha256, «Sha3_256», Reserved as HashReserved}
 use Rattle.layouts.specs.declared.dsm_kroot.HashFunctionAnswer.{HashFunctionAnswer}
 use Rattle.layouts.specs.declared.dsm_kroot.HashFunctionAnswer.the-variants.{Function as HashIs, Refused as HashRefused}
-use Rattle.layouts.specs.declared.dsm_kroot.MacFunction.{MacFunction}
 use Rattle.layouts.specs.declared.dsm_kroot.MacFunction.the-variants.{HmacSha256, CmacAes, Reserved as MacReserved}
 use Rattle.layouts.specs.declared.dsm_kroot.MacFunctionAnswer.{MacFunctionAnswer}
 use Rattle.layouts.specs.declared.dsm_kroot.MacFunctionAnswer.the-variants.{Function as MacIs, Refused as MacRefused}
-use Rattle.layouts.specs.declared.dsm_kroot.EcdsaFunction.{EcdsaFunction}
 use Rattle.layouts.specs.declared.dsm_kroot.EcdsaFunction.the-variants.{P256Sha256, P521Sha512}
 use Rattle.layouts.specs.declared.dsm_kroot.EcdsaFunctionAnswer.{EcdsaFunctionAnswer}
 use Rattle.layouts.specs.declared.dsm_kroot.EcdsaFunctionAnswer.the-variants.{Function as EcdsaIs, Refused as EcdsaRefused}
-use Rattle.layouts.specs.declared.dsm_pkr.NewPublicKeyType.{NewPublicKeyType}
 use Rattle.layouts.specs.declared.dsm_pkr.NewPublicKeyType.the-variants.{EcdsaKey, OsnmaAlertMessage, Reserved as TypeReserved}
 use Rattle.layouts.specs.declared.dsm_pkr.NewPublicKeyTypeAnswer.{NewPublicKeyTypeAnswer}
 use Rattle.layouts.specs.declared.dsm_pkr.NewPublicKeyTypeAnswer.the-variants.{KeyType as TypeIs, Refused as TypeRefused}

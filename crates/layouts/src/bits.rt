@@ -4,7 +4,7 @@ use crate::answer::Part;
 ghost use mathlib.Core.Path.{_≡_};
 ghost use Prim.Native.Nat.{_+_, _*_, _/_, _%_, _^_, _≤_, _<_};
 ghost use lib.ListN.{length};
-ghost use mathlib.Core.List.{List, []};
+ghost use mathlib.Core.List.{[]};
 ghost use lib.ListN.{getD};
 ghost use Rattle.layouts.specs.Answer.{part as partOf, shown as shownOf};
 ghost use Rattle.layouts.specs.Bits.{field, row, read};

@@ -8,7 +8,6 @@ use lib.ListN.{length}
 use borrow.Author.Tests.{lt-ltb, le-ltb}
 use Rattle.layouts.specs.Answer.{gives}
 use Rattle.layouts.proofs.Answers.{stop, pass, done}
-use Rattle.layouts.proofs.Answers.{checks}
 use borrow.Author.Needs.{needs}
 use Rattle.layouts.proofs.bits.number.Statement.{statement}
 use Rattle.layouts.proofs.bits.number.Tie as tie

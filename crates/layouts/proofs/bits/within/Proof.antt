@@ -2,7 +2,6 @@
 -- Assumes nothing.
 use Rattle.layouts.proofs.Readers.{part-refused, part-shown}
 use native.Mathlib.Omega.{arith}
-use Rattle.layouts.proofs.Answers.{checks}
 use Rattle.layouts.proofs.bits.within.Statement.{statement}
 use Rattle.layouts.proofs.bits.within.Tie as tie
 

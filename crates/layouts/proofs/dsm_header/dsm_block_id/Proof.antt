@@ -1,6 +1,5 @@
 -- `dsm_header::dsm_block_id`.
 -- Assumes nothing.
-use mathlib.Core.Path.{sym, _∙_}
 use native.Mathlib.Omega.{arith}
 use Rattle.layouts.proofs.Fields.{field-of-byte}
 use Rattle.layouts.proofs.dsm_header.dsm_block_id.Statement.{statement}

@@ -1,6 +1,5 @@
 -- `dsm_header::dsm_type`.
 -- Assumes nothing.
-use mathlib.Core.Path.{ap}
 use borrow.Author.Tests.{lt-ltb, le-ltb}
 use borrow.Author.Needs.{needs}
 use Rattle.layouts.proofs.dsm_header.dsm_type.Statement.{statement}

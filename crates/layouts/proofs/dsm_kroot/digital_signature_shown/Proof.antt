@@ -1,6 +1,5 @@
 -- `dsm_kroot::digital_signature_shown`: the signature, after the key.
 -- Assumes nothing.
-use Prim.Native.Nat.{_+_, _≤_}
 use Rattle.layouts.proofs.Kroot.{key-ends, key-long, key-few, signature-refused, signature-none, signature-given}
 use native.Mathlib.Omega.{arith}
 use borrow.Author.Needs.{needs}

@@ -1,7 +1,6 @@
 -- `dsm_kroot::mac_function`: the name of the number.
 -- Assumes nothing.
 use Rattle.layouts.proofs.Readers.{name-hit, name-miss}
-use borrow.Author.Tests.{ne-eqb}
 use Rattle.layouts.proofs.Readers.{name-given, name-refused}
 use Rattle.layouts.specs.Sizes.{macFunctions}
 use borrow.Author.Needs.{needs}

@@ -1,7 +1,5 @@
 -- `dsm_pkr::intermediate_tree_node`: each check, in the order of its promise.
 -- Assumes nothing.
-use native.Mathlib.Omega.{arith}
-use mathlib.Core.Path.{_≡_}
 use Rattle.layouts.proofs.Answers.{copied-refused, copied-bytes}
 use Rattle.layouts.proofs.Pkr.{node-unknown, node-missing, node-there}
 use borrow.Author.Needs.{needs}

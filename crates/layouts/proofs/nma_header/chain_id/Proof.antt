@@ -1,6 +1,5 @@
 -- `nma_header::chain_id`.
 -- Assumes nothing.
-use mathlib.Core.Path.{sym, _∙_}
 use native.Mathlib.Omega.{arith}
 use Rattle.layouts.proofs.Fields.{field-of-byte}
 use Rattle.layouts.proofs.nma_header.chain_id.Statement.{statement}
