@@ -1,6 +1,6 @@
 -- Laws of checks and answers.
 -- Assumes nothing.
-use mathlib.Core.Path.{_≡_, refl, ap, _∙_, subst}
+use mathlib.Core.Path.{_≡_, refl, sym, ap, _∙_, subst}
 use mathlib.Core.List.{List, [], _∷_, _++_}
 use mathlib.Core.Bool.{Bool, true, false, cond}
 use Prim.Native.Nat.{ℕ, zero, suc, _+_, _≤_}
@@ -91,7 +91,7 @@ abbrev pub Passed : List Check → Type 0
 Passed [] = Unit {0}
 Passed (c ∷ cs) = (c .fails ≡ false) × Passed cs
 
-none-fails : (cs : List Check) → T (numbered cs) → refusal cs ≡ 0 → Passed cs
+pub none-fails : (cs : List Check) → T (numbered cs) → refusal cs ≡ 0 → Passed cs
 unfolding refusal
 none-fails [] t e = tt
 none-fails (c ∷ cs) t e = go (c .fails) (c .number) (none-fails cs) t e
@@ -121,6 +121,36 @@ refusal-idle cs c t f = go (refusal cs) (refusal-pass cs (c ∷ []) t) (refusal-
 
 pub answer-of : (q : ℕ) (l : List ℕ) {k : List ℕ} → gives k ≡ answered q (gives l) → k ≡ l
 answer-of q l {k} e = none-of q l k e .1
+
+-- the same checks, another answer
+pub refused-same : (q : ℕ) (l : List ℕ) (a : Answer) {n : ℕ} → refused n ≡ answered q (gives l) → refused n ≡ answered q a
+unfolding answered
+refused-same zero l a e = let z : _≡_ {A = ℕ} 0 1 = cc in absurd (omega arith)
+refused-same (suc q) l a e = let f : refused _ ≡ refused (suc q) = rw eqb·suc-zero at e in rw eqb·suc-zero f
+
+pub given-same : (q : ℕ) (l : List ℕ) (a : Answer) {k : List ℕ} {r : Answer} → gives k ≡ answered q (gives l) → r ≡ a → r ≡ answered q a
+unfolding answered
+given-same q l a {k} e h = rw (none-of q l k e .0) h
+
+-- Where the code carries the number of the refusal itself.
+pub refused-with : (q : ℕ) (a : Answer) → (q ≡ 0 → ⊥) → refused q ≡ answered q a
+unfolding answered
+refused-with zero a ne = absurd (ne refl)
+refused-with (suc q) a ne = rw eqb·suc-zero
+
+pub given-with : (q : ℕ) (a : Answer) {r : Answer} → q ≡ 0 → r ≡ a → r ≡ answered q a
+unfolding answered
+given-with q a e h = rw e h
+
+pub by-value : {v w : ℕ} → v ≡ w → gives (v ∷ []) ≡ gives (w ∷ [])
+by-value e = ap (λ (n : ℕ). gives (n ∷ [])) e
+
+pub stopped : (cs ds : List Check) {q : ℕ} → q ≡ refusal cs → (q ≡ 0 → ⊥) → q ≡ refusal (cs ++ ds)
+stopped cs ds {q = zero} e ne = absurd (ne refl)
+stopped cs ds {q = suc q} e ne = sym (refusal-stop cs ds q (sym e))
+
+pub went-on : (cs ds : List Check) {q r : ℕ} → T (numbered cs) → q ≡ refusal cs → q ≡ 0 → r ≡ refusal ds → r ≡ refusal (cs ++ ds)
+went-on cs ds t e z h = h ∙ sym (refusal-pass cs ds t (sym e ∙ z))
 
 -- a part that is shown, or not
 pub inside : {p : Part} {first many len : ℕ} → p ≡ Shown first many → Inside p len → first + many ≤ len

@@ -5,5 +5,8 @@ pub mod Copies
 pub mod Readers
 pub mod Kroot
 pub mod Pkr
+pub mod LookUp
+pub mod Tags
+pub mod MacltTable
 pub mod Layouts
 pub mod Unique

@@ -14,11 +14,11 @@ use Rattle.layouts.specs.Bits.{Field, row, value, reach}
 use Rattle.layouts.specs.Sizes.{Size, size, readSize}
 use Rattle.layouts.proofs.Fields.{field-lt}
 
-both-left : (a b : Bool) → T (cond a b false) → T a
+pub both-left : (a b : Bool) → T (cond a b false) → T a
 both-left true b t = tt
 both-left false b t = t
 
-both-right : (a b : Bool) → T (cond a b false) → T b
+pub both-right : (a b : Bool) → T (cond a b false) → T b
 both-right true b t = t
 both-right false b t = absurd t
 

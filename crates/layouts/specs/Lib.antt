@@ -8,3 +8,7 @@ pub mod DsmHeader
 pub mod DsmKroot
 pub mod DsmPkr
 pub mod Layouts
+pub mod Maclt
+pub mod MacltReaders
+pub mod MacltTable
+pub mod Mack

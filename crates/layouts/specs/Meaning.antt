@@ -1,12 +1,15 @@
 -- The paper's number and values for each case of the code's enums. The definitions name the code's types only here and in the promises.
 -- A Reserved hash or MAC function, or key type, stands for several numbers, so it has none of its own.
 -- Assumes nothing.
-use mathlib.Core.List.{[], _∷_}
+use Prim.Native.Nat.{ℕ}
+use mathlib.Core.List.{List, [], _∷_, _++_}
 use Rattle.layouts.specs.Answer.{Answer, refused, gives}
 use Rattle.layouts.specs.declared.answer.Number.{Number}
 use Rattle.layouts.specs.declared.answer.Number.the-variants.{Value, Refused}
 use Rattle.layouts.specs.declared.answer.Part.{Part}
 use Rattle.layouts.specs.declared.answer.Part.the-variants.{Shown, Refused as NotShown}
+use Rattle.layouts.specs.declared.answer.Copy.{Copy}
+use Rattle.layouts.specs.declared.answer.Copy.the-variants.{Copied, Refused as NotCopied}
 use Rattle.layouts.specs.declared.nma_header.NmaStatus.{NmaStatus}
 use Rattle.layouts.specs.declared.nma_header.NmaStatus.the-variants.{Reserved as StatusReserved, Test, Operational, DontUse}
 use Rattle.layouts.specs.declared.nma_header.ChainAndPubkeyStatus.{ChainAndPubkeyStatus}
@@ -25,6 +28,20 @@ use Rattle.layouts.specs.declared.dsm_kroot.EcdsaFunctionAnswer.the-vari
 use Rattle.layouts.specs.declared.dsm_pkr.NewPublicKeyType.the-variants.{EcdsaKey, OsnmaAlertMessage, Reserved as TypeReserved}
 use Rattle.layouts.specs.declared.dsm_pkr.NewPublicKeyTypeAnswer.{NewPublicKeyTypeAnswer}
 use Rattle.layouts.specs.declared.dsm_pkr.NewPublicKeyTypeAnswer.the-variants.{KeyType as TypeIs, Refused as TypeRefused}
+use Rattle.layouts.specs.declared.tag_info.Adkd.{Adkd}
+use Rattle.layouts.specs.declared.tag_info.Adkd.the-variants.{InavCed, InavTiming, SlowMac, Reserved as AdkdReserved}
+use Rattle.layouts.specs.declared.tag_info.AdkdAnswer.{AdkdAnswer}
+use Rattle.layouts.specs.declared.tag_info.AdkdAnswer.the-variants.{Name as AdkdIs, Refused as AdkdRefused}
+use Rattle.layouts.specs.declared.tag_info.Prnd.{Prnd}
+use Rattle.layouts.specs.declared.tag_info.Prnd.the-variants.{GalileoSvid, GalileoConstellation, Reserved as PrndReserved}
+use Rattle.layouts.specs.declared.tag_info.PrndAnswer.{PrndAnswer}
+use Rattle.layouts.specs.declared.tag_info.PrndAnswer.the-variants.{Name as PrndIs, Refused as PrndRefused}
+use Rattle.layouts.specs.declared.maclt.AuthObject.{AuthObject}
+use Rattle.layouts.specs.declared.maclt.AuthObject.the-variants.{SelfAuth, CrossAuth}
+use Rattle.layouts.specs.declared.maclt.MacLTSlot.{MacLTSlot}
+use Rattle.layouts.specs.declared.maclt.MacLTSlot.the-variants.{Fixed, Flex}
+use Rattle.layouts.specs.declared.maclt.MacLTSlotAnswer.{MacLTSlotAnswer}
+use Rattle.layouts.specs.declared.maclt.MacLTSlotAnswer.the-variants.{Slot as SlotIs, Refused as SlotRefused}
 
 abbrev pub meaning-number : Number → Answer
 meaning-number (Value v) = gives (v ∷ [])
@@ -33,6 +50,10 @@ meaning-number (Refused n) = refused n
 abbrev pub meaning-part : Part → Answer
 meaning-part (Shown first many) = gives (first ∷ many ∷ [])
 meaning-part (NotShown n) = refused n
+
+abbrev pub meaning-copy : Copy → Answer
+meaning-copy Copied = gives []
+meaning-copy (NotCopied n) = refused n
 
 -- "status 2 (0 reserved, 1 test, 2 operational, 3 don't use)"
 abbrev pub meaning-status : NmaStatus → Answer
@@ -84,3 +105,35 @@ meaning-key-type (TypeIs (EcdsaKey P521Sha512)) = gives (3 ∷ [])
 meaning-key-type (TypeIs OsnmaAlertMessage) = gives (4 ∷ [])
 meaning-key-type (TypeIs TypeReserved) = gives []
 meaning-key-type (TypeRefused n) = refused n
+
+-- "ADKD 4 (0, 4, 12, else Reserved)"
+abbrev pub adkd-numbers : Adkd → List ℕ
+adkd-numbers InavCed = 0 ∷ []
+adkd-numbers InavTiming = 4 ∷ []
+adkd-numbers SlowMac = 12 ∷ []
+adkd-numbers AdkdReserved = []
+
+abbrev pub meaning-adkd : AdkdAnswer → Answer
+meaning-adkd (AdkdIs a) = gives (adkd-numbers a)
+meaning-adkd (AdkdRefused n) = refused n
+
+-- "PRND 8 (1..36 satellite, 255 constellation, else Reserved)"
+abbrev pub meaning-prnd : PrndAnswer → Answer
+meaning-prnd (PrndIs (GalileoSvid n)) = gives (n ∷ [])
+meaning-prnd (PrndIs GalileoConstellation) = gives (255 ∷ [])
+meaning-prnd (PrndIs PrndReserved) = gives []
+meaning-prnd (PrndRefused n) = refused n
+
+-- "E = cross, S = self": 0 for S, 1 for E
+abbrev pub object-number : AuthObject → ℕ
+object-number SelfAuth = 0
+object-number CrossAuth = 1
+
+-- ADKD and object of a slot; none for FLX
+abbrev pub slot-numbers : MacLTSlot → List ℕ
+slot-numbers (Fixed a o) = adkd-numbers a ++ (object-number o ∷ [])
+slot-numbers Flex = []
+
+abbrev pub meaning-slot : MacLTSlotAnswer → Answer
+meaning-slot (SlotIs s) = gives (slot-numbers s)
+meaning-slot (SlotRefused n) = refused n

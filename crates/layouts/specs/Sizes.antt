@@ -66,6 +66,9 @@ macFunctions = 0 named "HMAC-SHA-256" ∷ 1 named "CMAC-AES" ∷ []
 unfoldable pub keyTypes : List Named
 keyTypes = 1 named "ECDSA P-256" ∷ 3 named "ECDSA P-521" ∷ 4 named "OSNMA alert message" ∷ []
 
+unfoldable pub adkds : List Named
+adkds = 0 named "I/NAV ephemeris, clock and status" ∷ 4 named "I/NAV timing parameters" ∷ 12 named "slow MAC" ∷ []
+
 -- "Signature of 64 or 132 bytes": P-256 and P-521, by the number in the name
 unfoldable pub ecdsaFunctions : List Size
 ecdsaFunctions = 64 ⟶ 256 ∷ 132 ⟶ 521 ∷ []

@@ -11,3 +11,9 @@ pub enum Part {
     Shown { first: usize, many: usize },
     Refused(u8),
 }
+
+// Whether bytes were copied into the caller's output, or the number of the refusal.
+pub enum Copy {
+    Copied,
+    Refused(u8),
+}

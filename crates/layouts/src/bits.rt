@@ -2,10 +2,9 @@
 use crate::answer::Number;
 use crate::answer::Part;
 ghost use mathlib.Core.Path.{_≡_};
-ghost use Prim.Native.Nat.{_+_, _*_, _/_, _%_, _^_, _≤_, _<_};
-ghost use lib.ListN.{length};
+ghost use Prim.Native.Nat.{_+_, _*_, _^_, _≤_, _<_};
 ghost use mathlib.Core.List.{[]};
-ghost use lib.ListN.{getD};
+ghost use lib.ListN.{length, getD};
 ghost use Rattle.layouts.specs.Answer.{part as partOf, shown as shownOf};
 ghost use Rattle.layouts.specs.Bits.{field, row, read};
 ghost use Rattle.layouts.specs.Sizes.{readSize};
@@ -52,7 +51,7 @@ fn short(s: &[u8], first: usize, before: usize, width: usize) -> u64
 }
 
 // The field of `width` bits from bit `start` on: in one piece, or the low 32 bits behind the others.
-fn long(s: &[u8], start: usize, width: usize) -> u64
+pub(crate) fn long(s: &[u8], start: usize, width: usize) -> u64
     requires { ⌜ (width ≤ 64) × (start + width ≤ 8 * length (now s)) ⌝ }
     ensures { λ r. ⌜ r ≡ field (now (s .entry)) start width ⌝ }
 {
@@ -68,6 +67,14 @@ fn long(s: &[u8], start: usize, width: usize) -> u64
         32,
         short(s, first + second / 8, second % 8, 32),
     )
+}
+
+// The byte that starts `before` bits into byte `first`.
+pub(crate) fn byte_at(s: &[u8], first: usize, before: usize) -> u8
+    requires { ⌜ (before < 8) × (8 * first + before + 8 ≤ 8 * length (now s)) ⌝ }
+    ensures { λ r. ⌜ r ≡ field (now (s .entry)) (8 * first + before) 8 ⌝ }
+{
+    short(s, first, before, 8) as u8
 }
 
 // A field of a message of any length: 5 where the message ends before it.

@@ -1,0 +1,309 @@
+-- Laws of MACK messages.
+-- Assumes nothing.
+use mathlib.Core.Path.{_≡_, refl, sym, ap, _∙_}
+use mathlib.Core.Logic.{⊎-elim, inl, inr}
+use mathlib.Core.Bool.{Bool, true, false, cond, not}
+use mathlib.Core.List.{List, [], _∷_, _++_}
+use Prim.Native.Nat.{ℕ, zero, suc, _+_, _-_, _*_, _/_, _%_, _≤_, _<_}
+use native.Mathlib.Nat.{div-mul-le-self, mul-le-mul-right, add-mul, one-mul, zero-mul, le-refl, le-of-suc-le-suc, not-suc-le-zero}
+use native.Mathlib.Omega.{arith}
+use lib.Dec.{T, ltb, leb, eqb, leb→le}
+use lib.ListN.{length, getD, take, drop, set}
+use lib.Seq.{take-all}
+use types.Run.{OneOf}
+use borrow.Author.Tests.{eqb-true, eqb-false, leb-false, eq-eqb, ne-eqb, lt-ltb, le-ltb, le-leb, lt-leb, not-false}
+use Rattle.layouts.specs.Answer.{Answer, refused, gives, Copied, Check, _when_, refusal, answered}
+use Rattle.layouts.specs.Bits.{field}
+use Rattle.layouts.specs.Sizes.{keySizes, tagSizes, Named, naming}
+use Rattle.layouts.specs.Mack.{listed, sizesOf, bytesOf, sizeChecks, mackChecks, nt, tagChecks, prndName, bytesFrom, keyChecks, keyCopied}
+use Rattle.layouts.specs.Meaning.{meaning-number}
+use Rattle.layouts.specs.declared.answer.Number.{Number}
+use Rattle.layouts.specs.declared.answer.Number.the-variants.{Value, Refused}
+use Rattle.layouts.proofs.Answers.{none-fails, refused-with, given-with, stopped, went-on, refused-same, given-same, answer-of}
+use Rattle.layouts.proofs.Readers.{first-of}
+use Rattle.layouts.proofs.Copies.{copy-more, copy-all}
+use Rattle.layouts.proofs.Tables.{both-left, both-right}
+
+-- a size in a list, from the code's match
+in-later : (n s : ℕ) (ss : List ℕ) → OneOf (s ∷ ss) n → true ≡ listed n (s ∷ ss)
+unfolding listed
+in-later n s [] e = rw (eq-eqb n s e)
+in-later n s (t ∷ ss) e = ⊎-elim (λ h. rw (eq-eqb n s h)) (λ h. go (eqb n s) (in-later n t ss h)) e
+  where
+    go : (b : Bool) → true ≡ listed n (t ∷ ss) → true ≡ cond b true (listed n (t ∷ ss))
+    go true h = refl
+    go false h = h
+
+pub in-list : (n : ℕ) (ss : List ℕ) → OneOf ss n → true ≡ listed n ss
+in-list n [] e = absurd e
+in-list n (s ∷ ss) e = in-later n s ss e
+
+out-later : (n s : ℕ) (ss : List ℕ) → (OneOf (s ∷ ss) n → ⊥) → false ≡ listed n (s ∷ ss)
+unfolding listed
+out-later n s [] e = rw (ne-eqb n s e)
+out-later n s (t ∷ ss) e = rw (ne-eqb n s (λ h. e (inl h))) (out-later n t ss (λ h. e (inr h)))
+
+pub not-in-list : (n : ℕ) (ss : List ℕ) → (OneOf ss n → ⊥) → false ≡ listed n ss
+unfolding listed
+not-in-list n [] e = refl
+not-in-list n (s ∷ ss) e = out-later n s ss e
+
+-- what is listed lies between two bounds
+abbrev all-within : ℕ → ℕ → List ℕ → Bool
+all-within lo hi [] = true
+all-within lo hi (s ∷ ss) = cond (cond (leb lo s) (leb s hi) false) (all-within lo hi ss) false
+
+within : (lo hi n : ℕ) (ss : List ℕ) → T (all-within lo hi ss) → listed n ss ≡ true → (lo ≤ n) × (n ≤ hi)
+unfolding listed
+within lo hi n [] t e = let f : false ≡ true = e in let z : _≡_ {A = ℕ} 0 1 = cc in absurd (omega arith)
+within lo hi n (s ∷ ss) t e =
+    go (eqb n s) refl (both-left (cond (leb lo s) (leb s hi) false) (all-within lo hi ss) t) (within lo hi n ss (both-right (cond (leb lo s) (leb s hi) false) (all-within lo hi ss) t)) e
+  where
+    go : (b : Bool) → eqb n s ≡ b → T (cond (leb lo s) (leb s hi) false) → (listed n ss ≡ true → (lo ≤ n) × (n ≤ hi)) → cond b true (listed n ss) ≡ true → (lo ≤ n) × (n ≤ hi)
+    go true b t ih h =
+        let l : lo ≤ s = leb→le lo s (both-left (leb lo s) (leb s hi) t) in
+        let r : s ≤ hi = leb→le s hi (both-right (leb lo s) (leb s hi) t) in
+        (omega (arith, eqb-true n s b), omega (arith, eqb-true n s b))
+    go false b t ih h = ih h
+
+-- a key's size in bits, and in bytes
+pub listed-bytes : (K : ℕ) → listed (8 * bytesOf K) (sizesOf keySizes) ≡ listed K (sizesOf keySizes)
+unfolding listed keySizes
+listed-bytes K = go (eqb (K % 8) 0) refl
+  where
+    go : (b : Bool) → eqb (K % 8) 0 ≡ b → listed (8 * cond b (K / 8) 0) (sizesOf keySizes) ≡ listed K (sizesOf keySizes)
+    go true e = let h : K % 8 ≡ 0 = eqb-true (K % 8) 0 e in let w : 8 * (K / 8) ≡ K = omega arith in rw w
+    go false e =
+        let h : K % 8 ≡ 0 → ⊥ = eqb-false (K % 8) 0 e in
+        rw (ne-eqb K 96 (λ z. h (omega arith)), ne-eqb K 104 (λ z. h (omega arith)), ne-eqb K 112 (λ z. h (omega arith)), ne-eqb K 120 (λ z. h (omega arith)), ne-eqb K 128 (λ z. h (omega arith)),
+          ne-eqb K 160 (λ z. h (omega arith)), ne-eqb K 192 (λ z. h (omega arith)), ne-eqb K 224 (λ z. h (omega arith)), ne-eqb K 256 (λ z. h (omega arith)))
+
+-- what is known of sizes that are not refused, and of the message
+pub record Good (K T : ℕ) : Type 0 where
+  pub whole : 8 * bytesOf K ≡ K
+  pub key-some : 96 ≤ K
+  pub key-few : K ≤ 256
+  pub tag-some : 20 ≤ T
+  pub tag-few : T ≤ 40
+
+whole-of : (K : ℕ) → 96 ≤ 8 * bytesOf K → 8 * bytesOf K ≡ K
+whole-of K h = go (eqb (K % 8) 0) refl h
+  where
+    go : (b : Bool) → eqb (K % 8) 0 ≡ b → 96 ≤ 8 * cond b (K / 8) 0 → 8 * cond b (K / 8) 0 ≡ K
+    go true e h = omega (arith, eqb-true (K % 8) 0 e)
+    go false e h = absurd (omega arith)
+
+good-sizes : (K T : ℕ) → listed (8 * bytesOf K) (sizesOf keySizes) ≡ true → listed T (sizesOf tagSizes) ≡ true → Good K T
+unfolding keySizes tagSizes
+good-sizes K T k t =
+    let a = within 96 256 (8 * bytesOf K) (sizesOf keySizes) tt k in
+    let b = within 20 40 T (sizesOf tagSizes) tt t in
+    let w : 8 * bytesOf K ≡ K = whole-of K (a .0) in
+    record { whole = w; key-some = omega arith; key-few = omega arith; tag-some = b .0; tag-few = b .1 }
+
+pub good : (K T : ℕ) → refusal (sizeChecks (bytesOf K) T) ≡ 0 → Good K T
+good K T e =
+    let p = none-fails (sizeChecks (bytesOf K) T) tt e in
+    good-sizes K T (not-false _ (p .0)) (not-false _ (p .1 .0))
+
+module _ (m : List ℕ) (K T : ℕ) (e : refusal (mackChecks m (bytesOf K) T) ≡ 0) where
+  pub good-mack : Good K T
+  good-mack =
+      let p = none-fails (mackChecks m (bytesOf K) T) tt e in
+      good-sizes K T (not-false _ (p .1 .0)) (not-false _ (p .1 .1 .0))
+
+  pub sixty : length m ≡ 60
+  sixty = eqb-true (length m) 60 (not-false _ (none-fails (mackChecks m (bytesOf K) T) tt e .0))
+
+-- the code's nt
+pub nt-bits : (K T : ℕ) → Good K T → (480 - K) / (T + 16) ≡ nt (bytesOf K) T
+unfolding nt
+nt-bits K T g = rw (g .whole)
+
+-- tag n ends before the key, and the key before the end
+pub tag-fits : (K T n : ℕ) → Good K T → n < (480 - K) / (T + 16) → n * (T + 16) + T + 16 ≤ 480
+tag-fits K T n g h =
+    let q : ℕ = (480 - K) / (T + 16) in
+    let a : (n + 1) * (T + 16) ≤ q * (T + 16) = mul-le-mul-right (T + 16) (omega arith) in
+    let b : q * (T + 16) ≤ 480 - K = div-mul-le-self (480 - K) (T + 16) in
+    let c : (n + 1) * (T + 16) ≡ n * (T + 16) + (T + 16) = add-mul n 1 (T + 16) ∙ ap (λ (x : ℕ). n * (T + 16) + x) (one-mul (T + 16)) in
+    omega arith
+
+pub key-fits : (K T : ℕ) → Good K T → (480 - K) / (T + 16) * (T + 16) + K ≤ 480
+key-fits K T g = omega (arith, div-mul-le-self (480 - K) (T + 16), g .key-few)
+
+-- The refusal numbers, each from the tests that lead to it.
+module _ (K T : ℕ) where
+  module _ {a : Bool} (ea : a ≡ listed K (sizesOf keySizes)) where
+    key-test : listed (8 * bytesOf K) (sizesOf keySizes) ≡ a
+    key-test = listed-bytes K ∙ sym ea
+
+    pub key-unlisted : not a ≡ true → 7 ≡ refusal (sizeChecks (bytesOf K) T)
+    unfolding refusal
+    key-unlisted h = rw (key-test, h)
+
+    module _ (ha : not a ≡ false) {b : Bool} (eb : b ≡ listed T (sizesOf tagSizes)) where
+      pub tag-unlisted : not b ≡ true → 7 ≡ refusal (sizeChecks (bytesOf K) T)
+      unfolding refusal
+      tag-unlisted h = rw (key-test, ha, ← eb, h)
+
+      pub sizes-listed : not b ≡ false → 0 ≡ refusal (sizeChecks (bytesOf K) T)
+      unfolding refusal
+      sizes-listed h = rw (key-test, ha, ← eb, h)
+
+module _ (m : List ℕ) (k T : ℕ) where
+  pub not-sixty : (length m ≡ 60 → ⊥) → 1 ≡ refusal (mackChecks m k T)
+  unfolding refusal
+  not-sixty h = rw (ne-eqb (length m) 60 h)
+
+  pub sixty-then : {r : ℕ} → length m ≡ 60 → r ≡ refusal (sizeChecks k T) → r ≡ refusal (mackChecks m k T)
+  unfolding refusal
+  sixty-then e h = rw (eq-eqb (length m) 60 e) h
+
+module _ (m : List ℕ) (K T n : ℕ) where
+  module _ {q : ℕ} (e : q ≡ refusal (mackChecks m (bytesOf K) T)) where
+    pub tag-refused : (q ≡ 0 → ⊥) → q ≡ refusal (tagChecks m (bytesOf K) T n)
+    tag-refused ne = stopped (mackChecks m (bytesOf K) T) _ e ne
+
+    module _ (z : q ≡ 0) where
+      then : {r : ℕ} → r ≡ refusal (7 when eqb n 0 ∷ 7 when leb (nt (bytesOf K) T) n ∷ []) → r ≡ refusal (tagChecks m (bytesOf K) T n)
+      then h = went-on (mackChecks m (bytesOf K) T) _ tt e z h
+
+      pub tag-zero : n ≡ 0 → 7 ≡ refusal (tagChecks m (bytesOf K) T n)
+      unfolding refusal
+      tag-zero h = then (rw (eq-eqb n 0 h))
+
+      pub sizes-known : Good K T
+      sizes-known = good-mack m K T (sym e ∙ z)
+
+      module _ (h0 : n ≡ 0 → ⊥) {t : ℕ} (et : t ≡ (480 - K) / (T + 16)) where
+        tags-are : t ≡ nt (bytesOf K) T
+        tags-are = et ∙ nt-bits K T sizes-known
+
+        pub tag-beyond : t ≤ n → 7 ≡ refusal (tagChecks m (bytesOf K) T n)
+        unfolding refusal
+        tag-beyond h = then (rw (ne-eqb n 0 h0, ← tags-are, le-leb t n h))
+
+        pub tag-there : n < t → 0 ≡ refusal (tagChecks m (bytesOf K) T n)
+        unfolding refusal
+        tag-there h = then (rw (ne-eqb n 0 h0, ← tags-are, lt-leb t n h))
+
+  -- room in the message for tag n and its info
+  abbrev Room : ℕ → Type 0
+  Room i = (length m ≡ 60) × (i * (T + 16) + T + 16 ≤ 480) × (T ≤ 40)
+
+  pub header-room : {q : ℕ} → q ≡ refusal (mackChecks m (bytesOf K) T) → q ≡ 0 → Room 0
+  header-room e z =
+      let g = good-mack m K T (sym e ∙ z) in
+      (sixty m K T (sym e ∙ z), omega (arith, g .tag-few, zero-mul (T + 16)), g .tag-few)
+
+  pub tag-room : {q : ℕ} → q ≡ refusal (tagChecks m (bytesOf K) T n) → q ≡ 0 → Room n
+  tag-room e z =
+      let p = none-fails (tagChecks m (bytesOf K) T n) tt (sym e ∙ z) in
+      let g = good-sizes K T (not-false _ (p .1 .0)) (not-false _ (p .1 .1 .0)) in
+      let few : n < (480 - K) / (T + 16) = rw (nt-bits K T g) (leb-false (nt (bytesOf K) T) n (p .1 .1 .1 .1 .0)) in
+      (eqb-true (length m) 60 (not-false _ (p .0)), tag-fits K T n g few, g .tag-few)
+
+-- num_tags
+module _ (K T : ℕ) {q : ℕ} (e : q ≡ refusal (sizeChecks (bytesOf K) T)) where
+  pub num-tags-refused : (q ≡ 0 → ⊥) → refused q ≡ answered (refusal (sizeChecks (bytesOf K) T)) (gives (nt (bytesOf K) T ∷ []))
+  num-tags-refused ne = rw (← e) (refused-with q _ ne)
+
+  pub num-tags-given : {t : ℕ} → q ≡ 0 → t ≡ (480 - K) / (T + 16) → gives (t ∷ []) ≡ answered (refusal (sizeChecks (bytesOf K) T)) (gives (nt (bytesOf K) T ∷ []))
+  num-tags-given z h = rw (← e) (given-with q _ z (ap (λ (x : ℕ). gives (x ∷ [])) (h ∙ nt-bits K T (good K T (sym e ∙ z)))))
+
+-- a field that was read: the refusal is the promise's, and the place
+pub read-at : (m : List ℕ) (w : ℕ) (cs : List Check) (s t : ℕ) {q : ℕ} {r : Answer} → q ≡ refusal cs → s ≡ t → r ≡ answered q (gives (field m s w ∷ []))
+    → r ≡ answered (refusal cs) (gives (field m t w ∷ []))
+read-at m w cs s t e f h = rw (e, f) at h
+
+-- a name, after the number
+module _ (cs : List Check) (w : ℕ) {x : Number} (e : meaning-number x ≡ answered (refusal cs) (gives (w ∷ []))) where
+  pub name-refused : (a : Answer) {n : ℕ} → x ≡ Refused n → refused n ≡ answered (refusal cs) a
+  name-refused a g = refused-same (refusal cs) (w ∷ []) a (rw g at e)
+
+  name-given : (name : ℕ → List ℕ) {v : ℕ} {l : List ℕ} → x ≡ Value v → l ≡ name v → gives l ≡ answered (refusal cs) (gives (name w))
+  name-given name {v} g h =
+      let gave : gives (v ∷ []) ≡ answered (refusal cs) (gives (w ∷ [])) = rw g at e in
+      given-same (refusal cs) (w ∷ []) (gives (name w)) gave (ap gives (h ∙ ap name (first-of (answer-of (refusal cs) (w ∷ []) gave))))
+
+  pub adkd-given : (names : List Named) {v : ℕ} {l : List ℕ} → x ≡ Value v → l ≡ naming names v → gives l ≡ answered (refusal cs) (gives (naming names w))
+  adkd-given names g h = name-given (naming names) g h
+
+  pub prnd-given : {v : ℕ} {l : List ℕ} → x ≡ Value v → l ≡ prndName v → gives l ≡ answered (refusal cs) (gives (prndName w))
+  prnd-given g h = name-given prndName g h
+
+pub prnd-zero : (v : ℕ) → v < 1 → [] ≡ prndName v
+unfolding prndName
+prnd-zero v h = rw (lt-ltb v 1 h)
+
+module _ (v : ℕ) (h : 1 ≤ v) where
+  pub prnd-svid : v ≤ 36 → (v ∷ []) ≡ prndName v
+  unfolding prndName
+  prnd-svid l = rw (le-ltb v 1 h, le-leb v 36 l)
+
+  module _ (l : 36 < v) where
+    pub prnd-constellation : v ≡ 255 → (255 ∷ []) ≡ prndName v
+    unfolding prndName
+    prnd-constellation e = rw (le-ltb v 1 h, lt-leb v 36 l, eq-eqb v 255 e, e)
+
+    pub prnd-reserved : (v ≡ 255 → ⊥) → [] ≡ prndName v
+    unfolding prndName
+    prnd-reserved e = rw (le-ltb v 1 h, lt-leb v 36 l, ne-eqb v 255 e)
+
+-- The key's bytes.
+pub bytes-long : (m : List ℕ) (s n : ℕ) → length (bytesFrom m s n) ≡ n
+unfolding bytesFrom
+bytes-long m s zero = refl
+bytes-long m s (suc n) = ap suc (bytes-long m (s + 8) n)
+
+byte-of : (m : List ℕ) (s n i : ℕ) → i < n → getD (bytesFrom m s n) i 0 ≡ field m (s + 8 * i) 8
+unfolding bytesFrom
+byte-of m s zero i h = absurd (not-suc-le-zero h)
+byte-of m s (suc n) zero h = ap (λ (k : ℕ). field m k 8) (omega arith)
+byte-of m s (suc n) (suc i) h = byte-of m (s + 8) n i (le-of-suc-le-suc h) ∙ ap (λ (k : ℕ). field m k 8) (omega arith)
+
+-- a turn of the loop that copies them
+pub key-turn : (m d now : List ℕ) (s i : ℕ) {b : ℕ} → now ≡ take i (bytesFrom m s (length d)) ++ drop i d → i < length d → b ≡ field m (s + 8 * i) 8
+    → set now i b ≡ take (i + 1) (bytesFrom m s (length d)) ++ drop (i + 1) d
+key-turn m d now s i e h eb =
+    let l : List ℕ = bytesFrom m s (length d) in
+    let here : i < length l = rw (bytes-long m s (length d)) h in
+    rw (e, eb, ← byte-of m s (length d) i h) (copy-more l d i here h)
+
+pub key-copied : (m d : List ℕ) (s : ℕ) → take (length d) (bytesFrom m s (length d)) ++ drop (length d) d ≡ bytesFrom m s (length d)
+key-copied m d s =
+    copy-all (bytesFrom m s (length d)) d (length d) (le-refl (length d)) ∙ take-all (length d) (bytesFrom m s (length d)) (rw (bytes-long m s (length d)) (le-refl (length d)))
+
+-- The key's answers, each from the tests that lead to it.
+module _ (m : List ℕ) (K T : ℕ) (out : List ℕ) {q : ℕ} (e : q ≡ refusal (mackChecks m (bytesOf K) T)) where
+  refused-key : (n : ℕ) → refusal (keyChecks m (bytesOf K) T out) ≡ n → (n ≡ 0 → ⊥) → _≡_ {A = Copied} (record { answer = refused n; bytes = out }) (keyCopied m (bytesOf K) T out)
+  unfolding keyCopied answered
+  refused-key n f ne = rw (f, ne-eqb n 0 ne)
+
+  pub key-refused : (q ≡ 0 → ⊥) → _≡_ {A = Copied} (record { answer = refused q; bytes = out }) (keyCopied m (bytesOf K) T out)
+  key-refused ne = refused-key q (sym (stopped (mackChecks m (bytesOf K) T) _ e ne)) ne
+
+  module _ (z : q ≡ 0) where
+    pub key-sizes : Good K T
+    key-sizes = good-mack m K T (sym e ∙ z)
+
+    pub key-sixty : length m ≡ 60
+    key-sixty = sixty m K T (sym e ∙ z)
+
+    key-bytes : bytesOf K ≡ K / 8
+    key-bytes = omega (arith, key-sizes .whole)
+
+    key-then : {r : ℕ} → r ≡ refusal (1 when not (eqb (length out) (bytesOf K)) ∷ []) → refusal (keyChecks m (bytesOf K) T out) ≡ r
+    key-then h = sym (went-on (mackChecks m (bytesOf K) T) _ tt e z h)
+
+    pub key-length : (length out ≡ K / 8 → ⊥) → _≡_ {A = Copied} (record { answer = refused 1; bytes = out }) (keyCopied m (bytesOf K) T out)
+    unfolding refusal
+    key-length ne = refused-key 1 (key-then (rw (ne-eqb (length out) (bytesOf K) (λ h. ne (h ∙ key-bytes))))) (λ h. omega arith)
+
+    pub key-done : {t : ℕ} {l : List ℕ} → length out ≡ K / 8 → t ≡ (480 - K) / (T + 16) → l ≡ bytesFrom m (t * (T + 16)) (length out)
+        → _≡_ {A = Copied} (record { answer = gives []; bytes = l }) (keyCopied m (bytesOf K) T out)
+    unfolding keyCopied answered refusal
+    key-done h et el =
+        let none : refusal (keyChecks m (bytesOf K) T out) ≡ 0 = key-then (rw (eq-eqb (length out) (bytesOf K) (h ∙ sym key-bytes))) in
+        rw (none, el, et, h, ← nt-bits K T key-sizes, key-bytes)

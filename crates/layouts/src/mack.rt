@@ -1,0 +1,241 @@
+// MACK messages: tags and the key of a TESLA chain. Key and tag sizes are in bits and come from the chain's KROOT.
+// Every reader refuses 1 for a message of other than 60 bytes, then 7 for a size that no KROOT gives, then 7 for a tag number.
+use crate::answer::Copy;
+use crate::answer::Number;
+use crate::bits;
+use crate::tag_info::Adkd;
+use crate::tag_info::AdkdAnswer;
+use crate::tag_info::Prnd;
+use crate::tag_info::PrndAnswer;
+
+ghost use mathlib.Core.Path.{_≡_};
+ghost use mathlib.Core.List.{[], _∷_};
+ghost use Prim.Native.Nat.{_+_, _-_, _*_, _/_, _≤_};
+ghost use lib.ListN.{length, drop};
+ghost use mathlib.Core.List.{_++_};
+ghost use Rattle.layouts.specs.Answer.{refusal as refusalOf, answered, gives};
+ghost use Rattle.layouts.specs.Bits.{field};
+ghost use Rattle.layouts.specs.Sizes.{keySizes, tagSizes};
+ghost use Rattle.layouts.specs.Meaning.{meaning-number};
+ghost use Rattle.layouts.specs.Mack.{
+    listed, sizesOf, bytesOf, sizeChecks, mackChecks, tagChecks, bytesFrom, NumTags, Tag0, Macseq, Cop, Tag, TagInfo, PrndNumber, PrndRead,
+    AdkdNumber, AdkdRead, TagCop, Key
+};
+
+fn key_listed(key_size: usize) -> bool
+    ensures { λ r. ⌜ r ≡ listed «key_size» (sizesOf keySizes) ⌝ }
+{
+    match key_size {
+        96 | 104 | 112 | 120 | 128 | 160 | 192 | 224 | 256 => true,
+        _ => false,
+    }
+}
+
+fn tag_listed(tag_size: usize) -> bool
+    ensures { λ r. ⌜ r ≡ listed «tag_size» (sizesOf tagSizes) ⌝ }
+{
+    match tag_size {
+        20 | 24 | 28 | 32 | 40 => true,
+        _ => false,
+    }
+}
+
+// The refusal number of the sizes; 0 for none. So are the next two.
+fn refuses_sizes(key_size: usize, tag_size: usize) -> u8
+    ensures { λ r. ⌜ r ≡ refusalOf (sizeChecks (bytesOf «key_size») «tag_size») ⌝ }
+{
+    if !key_listed(key_size) {
+        return 7;
+    }
+    if !tag_listed(tag_size) {
+        return 7;
+    }
+    0
+}
+
+fn refuses(msg: &[u8], key_size: usize, tag_size: usize) -> u8
+    ensures { λ r. ⌜ r ≡ refusalOf (mackChecks (now (msg .entry)) (bytesOf «key_size») «tag_size») ⌝ }
+{
+    if msg.len() != 60 {
+        return 1;
+    }
+    refuses_sizes(key_size, tag_size)
+}
+
+fn refuses_tag(msg: &[u8], key_size: usize, tag_size: usize, n: usize) -> u8
+    ensures { λ r. ⌜ r ≡ refusalOf (tagChecks (now (msg .entry)) (bytesOf «key_size») «tag_size» n) ⌝ }
+{
+    let refusal = refuses(msg, key_size, tag_size);
+    if refusal != 0 {
+        return refusal;
+    }
+    if n == 0 {
+        return 7;
+    }
+    if tags(key_size, tag_size) <= n {
+        return 7;
+    }
+    0
+}
+
+// nt, of sizes that are listed.
+fn tags(key_size: usize, tag_size: usize) -> usize
+    requires { ⌜ («key_size» ≤ 256) × («tag_size» ≤ 40) ⌝ }
+    ensures { λ r. ⌜ r ≡ (480 - «key_size») / («tag_size» + 16) ⌝ }
+{
+    (480 - key_size) / (tag_size + 16)
+}
+
+// nt: the tags are 0 to nt-1.
+pub fn num_tags(key_size: usize, tag_size: usize) -> Number
+    ensures { λ r. ⌜ NumTags «key_size» «tag_size» r ⌝ }
+{
+    let refusal = refuses_sizes(key_size, tag_size);
+    if refusal != 0 {
+        return Number::Refused(refusal);
+    }
+    Number::Value(tags(key_size, tag_size) as u64)
+}
+
+// The bits of tag `n`, unless refused.
+fn tag_at(msg: &[u8], refusal: u8, n: usize, tag_size: usize) -> Number
+    requires { ⌜ (refusal ≡ 0 → (length (now msg) ≡ 60) × (n * («tag_size» + 16) + «tag_size» + 16 ≤ 480) × («tag_size» ≤ 40)) ⌝ }
+    ensures { λ r. ⌜ meaning-number r ≡ answered refusal (gives (field (now (msg .entry)) (n * («tag_size» + 16)) «tag_size» ∷ [])) ⌝ }
+{
+    if refusal != 0 {
+        return Number::Refused(refusal);
+    }
+    Number::Value(bits::long(msg, n * (tag_size + 16), tag_size))
+}
+
+// The `width` bits that stand `after` bits behind tag `n`, unless refused.
+fn info_at(msg: &[u8], refusal: u8, n: usize, tag_size: usize, after: usize, width: usize) -> Number
+    requires { ⌜ (after + width ≤ 16) × (refusal ≡ 0 → (length (now msg) ≡ 60) × (n * («tag_size» + 16) + «tag_size» + 16 ≤ 480) × («tag_size» ≤ 40)) ⌝ }
+    ensures { λ r. ⌜ meaning-number r ≡ answered refusal (gives (field (now (msg .entry)) (n * («tag_size» + 16) + «tag_size» + after) width ∷ [])) ⌝ }
+{
+    if refusal != 0 {
+        return Number::Refused(refusal);
+    }
+    Number::Value(bits::long(msg, n * (tag_size + 16) + tag_size + after, width))
+}
+
+// Tag 0.
+pub fn tag0(msg: &[u8], key_size: usize, tag_size: usize) -> Number
+    ensures { λ r. ⌜ Tag0 (now (msg .entry)) «key_size» «tag_size» r ⌝ }
+{
+    tag_at(msg, refuses(msg, key_size, tag_size), 0, tag_size)
+}
+
+// MACSEQ, 12 bits.
+pub fn macseq(msg: &[u8], key_size: usize, tag_size: usize) -> Number
+    ensures { λ r. ⌜ Macseq (now (msg .entry)) «key_size» «tag_size» r ⌝ }
+{
+    info_at(msg, refuses(msg, key_size, tag_size), 0, tag_size, 0, 12)
+}
+
+// COP of tag 0.
+pub fn cop(msg: &[u8], key_size: usize, tag_size: usize) -> Number
+    ensures { λ r. ⌜ Cop (now (msg .entry)) «key_size» «tag_size» r ⌝ }
+{
+    info_at(msg, refuses(msg, key_size, tag_size), 0, tag_size, 12, 4)
+}
+
+// Tag n, 1 to nt-1.
+pub fn tag(msg: &[u8], key_size: usize, tag_size: usize, n: usize) -> Number
+    ensures { λ r. ⌜ Tag (now (msg .entry)) «key_size» «tag_size» n r ⌝ }
+{
+    tag_at(msg, refuses_tag(msg, key_size, tag_size, n), n, tag_size)
+}
+
+// The info of tag n: PRND, ADKD and COP as one number of 16 bits.
+pub fn tag_info(msg: &[u8], key_size: usize, tag_size: usize, n: usize) -> Number
+    ensures { λ r. ⌜ TagInfo (now (msg .entry)) «key_size» «tag_size» n r ⌝ }
+{
+    info_at(msg, refuses_tag(msg, key_size, tag_size, n), n, tag_size, 0, 16)
+}
+
+// PRND of tag n, as it stands.
+pub fn prnd_number(msg: &[u8], key_size: usize, tag_size: usize, n: usize) -> Number
+    ensures { λ r. ⌜ PrndNumber (now (msg .entry)) «key_size» «tag_size» n r ⌝ }
+{
+    info_at(msg, refuses_tag(msg, key_size, tag_size, n), n, tag_size, 0, 8)
+}
+
+// PRND of tag n.
+pub fn prnd(msg: &[u8], key_size: usize, tag_size: usize, n: usize) -> PrndAnswer
+    ensures { λ r. ⌜ PrndRead (now (msg .entry)) «key_size» «tag_size» n r ⌝ }
+{
+    match prnd_number(msg, key_size, tag_size, n) {
+        Number::Refused(n) => PrndAnswer::Refused(n),
+        Number::Value(v) => {
+            if v < 1 {
+                return PrndAnswer::Name(Prnd::Reserved);
+            }
+            if v <= 36 {
+                return PrndAnswer::Name(Prnd::GalileoSvid(v as u8));
+            }
+            if v == 255 {
+                return PrndAnswer::Name(Prnd::GalileoConstellation);
+            }
+            PrndAnswer::Name(Prnd::Reserved)
+        }
+    }
+}
+
+// ADKD of tag n, as it stands.
+pub fn adkd_number(msg: &[u8], key_size: usize, tag_size: usize, n: usize) -> Number
+    ensures { λ r. ⌜ AdkdNumber (now (msg .entry)) «key_size» «tag_size» n r ⌝ }
+{
+    info_at(msg, refuses_tag(msg, key_size, tag_size, n), n, tag_size, 8, 4)
+}
+
+// ADKD of tag n.
+pub fn adkd(msg: &[u8], key_size: usize, tag_size: usize, n: usize) -> AdkdAnswer
+    ensures { λ r. ⌜ AdkdRead (now (msg .entry)) «key_size» «tag_size» n r ⌝ }
+{
+    match adkd_number(msg, key_size, tag_size, n) {
+        Number::Refused(n) => AdkdAnswer::Refused(n),
+        Number::Value(v) => match v {
+            0 => AdkdAnswer::Name(Adkd::InavCed),
+            4 => AdkdAnswer::Name(Adkd::InavTiming),
+            12 => AdkdAnswer::Name(Adkd::SlowMac),
+            _ => AdkdAnswer::Name(Adkd::Reserved),
+        },
+    }
+}
+
+// COP of tag n.
+pub fn tag_cop(msg: &[u8], key_size: usize, tag_size: usize, n: usize) -> Number
+    ensures { λ r. ⌜ TagCop (now (msg .entry)) «key_size» «tag_size» n r ⌝ }
+{
+    info_at(msg, refuses_tag(msg, key_size, tag_size, n), n, tag_size, 12, 4)
+}
+
+// Copies the bytes from bit `start` on into all of `out`.
+fn copy_bits(msg: &[u8], start: usize, out: &mut [u8])
+    requires { ⌜ start + 8 * length (now out) ≤ 8 * length (now msg) ⌝ }
+    ensures { λ r. ⌜ now (out .exit) ≡ bytesFrom (now (msg .entry)) start (length (now (out .entry))) ⌝ }
+{
+    let first = start / 8;
+    let before = start % 8;
+    let mut i = 0;
+    while i < out.len() {
+        out[i] = bits::byte_at(msg, first + i, before);
+        i += 1;
+    }
+}
+
+// Copies the key into the caller's output of key_size/8 bytes; one of another length is 1, tested last. The key may start half a byte in.
+pub fn key(msg: &[u8], key_size: usize, tag_size: usize, out: &mut [u8]) -> Copy
+    ensures { λ r. ⌜ Key (now (msg .entry)) «key_size» «tag_size» (now (out .entry)) r (now (out .exit)) ⌝ }
+{
+    let refusal = refuses(msg, key_size, tag_size);
+    if refusal != 0 {
+        return Copy::Refused(refusal);
+    }
+    if out.len() != key_size / 8 {
+        return Copy::Refused(1);
+    }
+    copy_bits(msg, tags(key_size, tag_size) * (tag_size + 16), out);
+    Copy::Copied
+}
