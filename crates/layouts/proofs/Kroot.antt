@@ -10,7 +10,7 @@ use lib.ListN.{length}
 use borrow.Author.Tests.{ltb-false, eqb-true, eqb-false, le-ltb, eq-eqb, ne-eqb}
 use Rattle.layouts.specs.Answer.{Answer, refused, gives, _when_, refusal, answered, part}
 use Rattle.layouts.specs.Bits.{the, value}
-use Rattle.layouts.specs.Sizes.{size, keySizes, ecdsaFunctions, readSize}
+use Rattle.layouts.specs.Sizes.{size, krootBlocks, keySizes, ecdsaFunctions, readSize}
 use Rattle.layouts.specs.DsmKroot.{krootLayout, keyBytes, keyChecks, krootPart, padding-to-block, signature-length, signatureBytes, signatureChecks, signaturePart, ecdsaFunction, paddingPart}
 use Rattle.layouts.specs.Meaning.{meaning-number, meaning-part}
 use Rattle.layouts.specs.declared.answer.Number.{Number}
@@ -21,6 +21,11 @@ use Rattle.layouts.proofs.Answers.{stop, pass, done, refused-too, passe
 use Rattle.layouts.proofs.Readers.{first-of, second-of, part-first, part-many, part-ends}
 use Rattle.layouts.proofs.Fields.{field-lt}
 use Rattle.layouts.proofs.Tables.{holds-below}
+
+-- at most 14 blocks
+pub blocks-few : (m : List ℕ) → size krootBlocks (value (the "NB_DK" krootLayout) m) ≤ 14
+unfolding krootBlocks
+blocks-few m = leb→le _ _ (holds-below 16 (λ c. leb (size krootBlocks c) 14) tt (value (the "NB_DK" krootLayout) m) (field-lt m 0 4))
 
 -- a key has at most 32 bytes
 pub key-few : (m : List ℕ) → keyBytes m ≤ 32

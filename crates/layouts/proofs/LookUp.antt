@@ -1,6 +1,6 @@
 -- Laws of the look-up table: the code's arrays are computed from the paper's table, and one test over all places, messages and tags ties them.
 -- Assumes nothing.
-use mathlib.Core.Path.{_≡_, refl, sym, ap, _∙_}
+use mathlib.Core.Path.{_≡_, refl, ap, _∙_}
 use mathlib.Core.Bool.{Bool, true, false, cond}
 use mathlib.Core.List.{List, [], _∷_, _++_, map}
 use Prim.Native.Nat.{ℕ, zero, suc, _+_, _-_, _*_, _/_, _%_, _≤_, _<_}
@@ -11,7 +11,7 @@ use lib.Dec.{T, ltb, leb, eqb, eqb·suc-zero, ltb→lt, leb→le, eqb→eq}
 use lib.ListN.{length, getD, set, take, drop, replicate, List·getD-map, List·getD-eq-default}
 use lib.Seq.{drop-cons}
 use borrow.Author.Tests.{eq-eqb, ne-eqb, lt-ltb, le-ltb, le-leb, lt-leb}
-use Rattle.layouts.specs.Answer.{Answer, refused, gives, Copied, _when_, refusal, answered}
+use Rattle.layouts.specs.Answer.{refused, gives, Copied, refusal, answered}
 use Rattle.layouts.specs.Maclt.{Slot, fixed, flex, Row, row, table, rowOf, slots, numbers, entry, flx, flxOf, padded, flxChecks, flxIndices, ntOf}
 use Rattle.layouts.specs.MacltReaders.{placeOf, rowAt, codedSlots}
 use Rattle.layouts.specs.Meaning.{meaning-number}

@@ -5,9 +5,9 @@ use mathlib.Core.Logic.{⊎-elim, inl, inr}
 use mathlib.Core.Bool.{Bool, true, false, cond, not}
 use mathlib.Core.List.{List, [], _∷_, _++_}
 use Prim.Native.Nat.{ℕ, zero, suc, _+_, _-_, _*_, _/_, _%_, _≤_, _<_}
-use native.Mathlib.Nat.{div-mul-le-self, mul-le-mul-right, add-mul, one-mul, zero-mul, le-refl, le-of-suc-le-suc, not-suc-le-zero}
+use native.Mathlib.Nat.{div-mul-le-self, mul-le-mul-left, mul-le-mul-right, add-mul, one-mul, zero-mul, le-refl, le-of-suc-le-suc, not-suc-le-zero}
 use native.Mathlib.Omega.{arith}
-use lib.Dec.{T, ltb, leb, eqb, leb→le}
+use lib.Dec.{T, leb, eqb, leb→le}
 use lib.ListN.{length, getD, take, drop, set}
 use lib.Seq.{take-all}
 use types.Run.{OneOf}
@@ -75,8 +75,17 @@ listed-bytes K = go (eqb (K % 8) 0) refl
     go true e = let h : K % 8 ≡ 0 = eqb-true (K % 8) 0 e in let w : 8 * (K / 8) ≡ K = omega arith in rw w
     go false e =
         let h : K % 8 ≡ 0 → ⊥ = eqb-false (K % 8) 0 e in
-        rw (ne-eqb K 96 (λ z. h (omega arith)), ne-eqb K 104 (λ z. h (omega arith)), ne-eqb K 112 (λ z. h (omega arith)), ne-eqb K 120 (λ z. h (omega arith)), ne-eqb K 128 (λ z. h (omega arith)),
-          ne-eqb K 160 (λ z. h (omega arith)), ne-eqb K 192 (λ z. h (omega arith)), ne-eqb K 224 (λ z. h (omega arith)), ne-eqb K 256 (λ z. h (omega arith)))
+        rw (
+          ne-eqb K 96 (λ z. h (omega arith)),
+          ne-eqb K 104 (λ z. h (omega arith)),
+          ne-eqb K 112 (λ z. h (omega arith)),
+          ne-eqb K 120 (λ z. h (omega arith)),
+          ne-eqb K 128 (λ z. h (omega arith)),
+          ne-eqb K 160 (λ z. h (omega arith)),
+          ne-eqb K 192 (λ z. h (omega arith)),
+          ne-eqb K 224 (λ z. h (omega arith)),
+          ne-eqb K 256 (λ z. h (omega arith)),
+        )
 
 -- what is known of sizes that are not refused, and of the message
 pub record Good (K T : ℕ) : Type 0 where
@@ -238,14 +247,14 @@ unfolding prndName
 prnd-zero v h = rw (lt-ltb v 1 h)
 
 module _ (v : ℕ) (h : 1 ≤ v) where
-  pub prnd-svid : v ≤ 36 → (v ∷ []) ≡ prndName v
+  pub prnd-svid : v ≤ 36 → (1 ∷ v ∷ []) ≡ prndName v
   unfolding prndName
   prnd-svid l = rw (le-ltb v 1 h, le-leb v 36 l)
 
   module _ (l : 36 < v) where
     pub prnd-constellation : v ≡ 255 → (255 ∷ []) ≡ prndName v
     unfolding prndName
-    prnd-constellation e = rw (le-ltb v 1 h, lt-leb v 36 l, eq-eqb v 255 e, e)
+    prnd-constellation e = rw (le-ltb v 1 h, lt-leb v 36 l, eq-eqb v 255 e)
 
     pub prnd-reserved : (v ≡ 255 → ⊥) → [] ≡ prndName v
     unfolding prndName
@@ -307,3 +316,10 @@ module _ (m : List ℕ) (K T : ℕ) (out : List ℕ) {q : ℕ} (e : q ≡ refusa
     key-done h et el =
         let none : refusal (keyChecks m (bytesOf K) T out) ≡ 0 = key-then (rw (eq-eqb (length out) (bytesOf K) (h ∙ sym key-bytes))) in
         rw (none, el, et, h, ← nt-bits K T key-sizes, key-bytes)
+
+-- there are at most 10 tags
+pub tags-few : (K T : ℕ) → Good K T → (480 - K) / (T + 16) ≤ 10
+tags-few K T g =
+    let q : ℕ = (480 - K) / (T + 16) in
+    let a : q * 36 ≤ q * (T + 16) = mul-le-mul-left q (omega (arith, g .tag-some)) in
+    omega (arith, div-mul-le-self (480 - K) (T + 16), g .key-some)

@@ -7,12 +7,14 @@ use Prim.Native.Nat.{ℕ}
 use lib.ListN.{getD}
 use lib.Dec.{eqb}
 use Rattle.layouts.specs.Answer.{Answer, refused, nothing, gives, Copied}
-use Rattle.layouts.specs.Meaning.{meaning-number, meaning-part, meaning-status, meaning-chain-status, meaning-type, meaning-hash, meaning-mac, meaning-ecdsa, meaning-key-type}
+use Rattle.layouts.specs.Meaning.{meaning-number, meaning-part, meaning-copy, meaning-status, meaning-chain-status, meaning-type, meaning-hash, meaning-mac, meaning-ecdsa, meaning-key-type, meaning-adkd, meaning-prnd, meaning-slot}
 use Rattle.layouts.specs.Readers.{ReadBits}
 use Rattle.layouts.specs.NmaHeader.{NmaStatusRead, ChainIdRead, ChainAndPubkeyStatusRead}
 use Rattle.layouts.specs.DsmHeader.{DsmIdRead, DsmBlockIdRead, DsmTypeRead}
 use Rattle.layouts.specs.DsmKroot as kroot
 use Rattle.layouts.specs.DsmPkr as pkr
+use Rattle.layouts.specs.Mack as mack
+use Rattle.layouts.specs.MacltReaders.{MacltEntryRead, FlxIndicesRead, NtRead}
 use Rattle.layouts.specs.declared.answer.Number.{Number}
 use Rattle.layouts.specs.declared.answer.Number.the-variants.{Value, Refused}
 use Rattle.layouts.specs.declared.answer.Part.{Part}
@@ -36,6 +38,21 @@ use Rattle.layouts.specs.declared.dsm_pkr.NewPublicKeyType.the-variants.
 use Rattle.layouts.specs.declared.dsm_pkr.NewPublicKeyTypeAnswer.{NewPublicKeyTypeAnswer}
 use Rattle.layouts.specs.declared.dsm_pkr.NewPublicKeyTypeAnswer.the-variants.{KeyType as TypeIs, Refused as TypeRefused}
 use Rattle.layouts.specs.declared.dsm_pkr.TreeNode.{TreeNode}
+use Rattle.layouts.specs.declared.answer.Copy.{Copy}
+use Rattle.layouts.specs.declared.answer.Copy.the-variants.{Copied as CopyDone, Refused as NotCopied}
+use Rattle.layouts.specs.declared.tag_info.Adkd.{Adkd}
+use Rattle.layouts.specs.declared.tag_info.Adkd.the-variants.{InavCed, InavTiming, SlowMac, Reserved as AdkdReserved}
+use Rattle.layouts.specs.declared.tag_info.AdkdAnswer.{AdkdAnswer}
+use Rattle.layouts.specs.declared.tag_info.AdkdAnswer.the-variants.{Name as AdkdIs, Refused as AdkdRefused}
+use Rattle.layouts.specs.declared.tag_info.Prnd.the-variants.{GalileoSvid, GalileoConstellation, Reserved as PrndReserved}
+use Rattle.layouts.specs.declared.tag_info.PrndAnswer.{PrndAnswer}
+use Rattle.layouts.specs.declared.tag_info.PrndAnswer.the-variants.{Name as PrndIs, Refused as PrndRefused}
+use Rattle.layouts.specs.declared.maclt.AuthObject.the-variants.{SelfAuth, CrossAuth}
+use Rattle.layouts.specs.declared.maclt.AuthObject.{AuthObject}
+use Rattle.layouts.specs.declared.maclt.MacLTSlot.the-variants.{Fixed, Flex}
+use Rattle.layouts.specs.declared.maclt.MacLTSlotAnswer.{MacLTSlotAnswer}
+use Rattle.layouts.specs.declared.maclt.MacLTSlotAnswer.the-variants.{Slot as SlotIs, Refused as SlotRefused}
+use Rattle.layouts.specs.declared.maclt.FlxIndices.{FlxIndices}
 
 -- whatever meets the promise is the same
 abbrev pub Agree : {A : Type 0} → (A → Type 0) → Type 0
@@ -152,9 +169,67 @@ undo-key-type (TypeIs OsnmaAlertMessage) = refl
 undo-key-type (TypeIs TypeReserved) = refl
 undo-key-type (TypeRefused n) = refl
 
+abbrev back-copy : Answer → Copy
+back-copy = answer NotCopied (NotCopied 0) (λ l. CopyDone)
+
+undo-copy : (r : Copy) → back-copy (meaning-copy r) ≡ r
+undo-copy CopyDone = refl
+undo-copy (NotCopied n) = refl
+
+abbrev adkd-of : ℕ → Adkd
+adkd-of v = cond (eqb v 0) InavCed (cond (eqb v 4) InavTiming SlowMac)
+
+abbrev back-adkd : Answer → AdkdAnswer
+back-adkd = answer AdkdRefused (AdkdRefused 0) (one (λ v. AdkdIs (adkd-of v)) (AdkdIs AdkdReserved))
+
+undo-adkd : (r : AdkdAnswer) → back-adkd (meaning-adkd r) ≡ r
+undo-adkd (AdkdIs InavCed) = refl
+undo-adkd (AdkdIs InavTiming) = refl
+undo-adkd (AdkdIs SlowMac) = refl
+undo-adkd (AdkdIs AdkdReserved) = refl
+undo-adkd (AdkdRefused n) = refl
+
+-- a list of two numbers, of one, or of none
+abbrev by-count : {A : Type 0} → (ℕ → ℕ → A) → (ℕ → A) → A → List ℕ → A
+by-count f g other [] = other
+by-count f g other (v ∷ []) = g v
+by-count f g other (v ∷ w ∷ vs) = f v w
+
+abbrev back-prnd : Answer → PrndAnswer
+back-prnd = answer PrndRefused (PrndRefused 0) (by-count (λ v w. PrndIs (GalileoSvid w)) (λ v. PrndIs GalileoConstellation) (PrndIs PrndReserved))
+
+undo-prnd : (r : PrndAnswer) → back-prnd (meaning-prnd r) ≡ r
+undo-prnd (PrndIs (GalileoSvid n)) = refl
+undo-prnd (PrndIs GalileoConstellation) = refl
+undo-prnd (PrndIs PrndReserved) = refl
+undo-prnd (PrndRefused n) = refl
+
+abbrev object-of : ℕ → AuthObject
+object-of v = cond (eqb v 0) SelfAuth CrossAuth
+
+abbrev back-slot : Answer → MacLTSlotAnswer
+back-slot =
+    answer SlotRefused (SlotRefused 0)
+    (by-count (λ a o. SlotIs (Fixed (adkd-of a) (object-of o))) (λ o. SlotIs (Fixed AdkdReserved (object-of o))) (SlotIs Flex))
+
+undo-slot : (r : MacLTSlotAnswer) → back-slot (meaning-slot r) ≡ r
+undo-slot (SlotIs (Fixed InavCed SelfAuth)) = refl
+undo-slot (SlotIs (Fixed InavCed CrossAuth)) = refl
+undo-slot (SlotIs (Fixed InavTiming SelfAuth)) = refl
+undo-slot (SlotIs (Fixed InavTiming CrossAuth)) = refl
+undo-slot (SlotIs (Fixed SlowMac SelfAuth)) = refl
+undo-slot (SlotIs (Fixed SlowMac CrossAuth)) = refl
+undo-slot (SlotIs (Fixed AdkdReserved SelfAuth)) = refl
+undo-slot (SlotIs (Fixed AdkdReserved CrossAuth)) = refl
+undo-slot (SlotIs Flex) = refl
+undo-slot (SlotRefused n) = refl
+
 -- what is no enum is the equation's right side
 pub plain : {A : Type 0} (a : A) → Agree (λ r. r ≡ a)
 plain a r s p q = p ∙ sym q
+
+abbrev indices : Number → List ℕ → FlxIndices
+indices a b = record { count = a; indices = b }
 
 abbrev node : Part → List ℕ → TreeNode
 node a b = record { answer = a; bytes = b }
@@ -282,3 +357,55 @@ module _ (m : List ℕ) where
   pkr-intermediate-tree-node n r s p q =
       let e : _≡_ {A = Copied} (record { answer = meaning-part (r .answer); bytes = r .bytes }) (record { answer = meaning-part (s .answer); bytes = s .bytes }) = p ∙ sym q in
       ap₂ node (parts _ (r .answer) (s .answer) (ap (λ (c : Copied). c .answer) e) refl) (ap (λ (c : Copied). c .bytes) e)
+
+pub num-tags : (K T : ℕ) → Agree (mack.NumTags K T)
+num-tags K T = numbers _
+
+module _ (m : List ℕ) (K T : ℕ) where
+  pub tag0 : Agree (mack.Tag0 m K T)
+  tag0 = numbers _
+
+  pub macseq : Agree (mack.Macseq m K T)
+  macseq = numbers _
+
+  pub cop : Agree (mack.Cop m K T)
+  cop = numbers _
+
+  module _ (n : ℕ) where
+    pub tag : Agree (mack.Tag m K T n)
+    tag = numbers _
+
+    pub tag-info : Agree (mack.TagInfo m K T n)
+    tag-info = numbers _
+
+    pub prnd-number : Agree (mack.PrndNumber m K T n)
+    prnd-number = numbers _
+
+    pub prnd : Agree (mack.PrndRead m K T n)
+    prnd = by-meaning meaning-prnd back-prnd undo-prnd _
+
+    pub adkd-number : Agree (mack.AdkdNumber m K T n)
+    adkd-number = numbers _
+
+    pub adkd : Agree (mack.AdkdRead m K T n)
+    adkd = by-meaning meaning-adkd back-adkd undo-adkd _
+
+    pub tag-cop : Agree (mack.TagCop m K T n)
+    tag-cop = numbers _
+
+  -- the answer, and what the output then has
+  pub key : (out : List ℕ) (r s : Copy) (x y : List ℕ) → mack.Key m K T out r x → mack.Key m K T out s y → (r ≡ s) × (x ≡ y)
+  key out r s x y p q =
+      let e : _≡_ {A = Copied} (record { answer = meaning-copy r; bytes = x }) (record { answer = meaning-copy s; bytes = y }) = p ∙ sym q in
+      (by-meaning meaning-copy back-copy undo-copy _ r s (ap (λ (c : Copied). c .answer) e) refl, ap (λ (c : Copied). c .bytes) e)
+
+pub get-maclt-entry : (i message tag : ℕ) → Agree (MacltEntryRead i message tag)
+get-maclt-entry i message tag = by-meaning meaning-slot back-slot undo-slot _
+
+pub get-flx-indices : (i message : ℕ) → Agree (FlxIndicesRead i message)
+get-flx-indices i message r s p q =
+    let e : _≡_ {A = Copied} (record { answer = meaning-number (r .count); bytes = r .indices }) (record { answer = meaning-number (s .count); bytes = s .indices }) = p ∙ sym q in
+    ap₂ indices (numbers _ (r .count) (s .count) (ap (λ (c : Copied). c .answer) e) refl) (ap (λ (c : Copied). c .bytes) e)
+
+pub nt : (i : ℕ) → Agree (NtRead i)
+nt i = numbers _

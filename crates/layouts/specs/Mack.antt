@@ -96,9 +96,9 @@ AdkdNumber m K T n r = meaning-number r ≡ readTag (the "ADKD" (tagLayout T n))
 abbrev pub TagCop : List ℕ → ℕ → ℕ → ℕ → Number → Type 0
 TagCop m K T n r = meaning-number r ≡ readTag (the "COP" (tagLayout T n)) m (bytesOf K) T n
 
--- "(1..36 satellite, 255 constellation, else Reserved)": the number itself; none where it is Reserved
+-- "(1..36 satellite, 255 constellation, else Reserved)": 1 and the number for a satellite, 255 for the constellation, no number for Reserved
 unfoldable pub prndName : ℕ → List ℕ
-prndName v = cond (ltb v 1) [] (cond (leb v 36) (v ∷ []) (cond (eqb v 255) (v ∷ []) []))
+prndName v = cond (ltb v 1) [] (cond (leb v 36) (1 ∷ v ∷ []) (cond (eqb v 255) (255 ∷ []) []))
 
 abbrev pub PrndRead : List ℕ → ℕ → ℕ → ℕ → PrndAnswer → Type 0
 PrndRead m K T n r =
@@ -125,7 +125,7 @@ unfoldable pub keyCopied : List ℕ → ℕ → ℕ → List ℕ → Copied
 keyCopied m k T out =
     record {
       answer = answered (refusal (keyChecks m k T out)) (gives []);
-      bytes = cond (eqb (refusal (keyChecks m k T out)) 0) (bytesFrom m (nt k T * (T + 16)) k) out
+      bytes = cond (eqb (refusal (keyChecks m k T out)) 0) (bytesFrom m (nt k T * (T + 16)) k) out;
     }
 
 abbrev pub Key : List ℕ → ℕ → ℕ → List ℕ → Copy → List ℕ → Type 0

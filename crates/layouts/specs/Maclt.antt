@@ -1,15 +1,13 @@
 -- The MAC look-up table: document 01, "Look-up table" (Annex C of the ICD).
 -- Assumes nothing.
-use Prim.Native.Nat.{ℕ, suc, _+_, _-_}
-use mathlib.Core.List.{List, [], _∷_, _++_, map}
-use mathlib.Core.Bool.{Bool, true, false, cond}
-use mathlib.Core.Path.{_≡_}
+use Prim.Native.Nat.{ℕ, suc, _-_}
+use mathlib.Core.List.{List, [], _∷_, _++_}
+use mathlib.Core.Bool.{cond}
 use lib.ListN.{length, getD, take, replicate}
-use lib.Dec.{T, ltb, leb, eqb}
+use lib.Dec.{ltb, leb, eqb}
 use Rattle.layouts.specs.Answer.{Answer, gives, Check, _when_, refusal, answered, Copied}
 
 infixr 68 _·_
-
 -- A slot: an ADKD and its object, 0 the sender itself and 1 another satellite; or a flexible one.
 pub data Slot : Type 0 where
   fixed : ℕ → ℕ → Slot
@@ -107,7 +105,7 @@ unfoldable pub flxIndices : ℕ → ℕ → Copied
 flxIndices i message =
     record {
       answer = answered (refusal (flxChecks i message)) (gives (length (flxOf message (rowOf i table)) ∷ []));
-      bytes = cond (eqb (refusal (flxChecks i message)) 0) (padded (flxOf message (rowOf i table))) (replicate 4 0)
+      bytes = cond (eqb (refusal (flxChecks i message)) 0) (padded (flxOf message (rowOf i table))) (replicate 4 0);
     }
 
 -- nt of an ID, or 8

@@ -52,15 +52,15 @@ abbrev pub Timing : Type 0
 Timing =
     map (λ (r : Row). speaks (r .id) (timing 1 (r .message0)) (timing 1 (r .message1))) table
     ≡ speaks 27 [] (3 ∷ []) ∷
-      speaks 28 [] (6 ∷ []) ∷
-      speaks 31 [] (4 ∷ []) ∷
-      speaks 33 (2 ∷ []) [] ∷
-      speaks 34 (2 ∷ []) [] ∷
-      speaks 35 (2 ∷ []) [] ∷
-      speaks 36 (2 ∷ []) [] ∷
-      speaks 37 (2 ∷ []) [] ∷
-      speaks 38 (2 ∷ []) [] ∷
-      speaks 39 (2 ∷ []) [] ∷
-      speaks 40 (2 ∷ []) [] ∷
-      speaks 41 (2 ∷ []) [] ∷
-      []
+    speaks 28 [] (6 ∷ []) ∷
+    speaks 31 [] (4 ∷ []) ∷
+    speaks 33 (2 ∷ []) [] ∷
+    speaks 34 (2 ∷ []) [] ∷
+    speaks 35 (2 ∷ []) [] ∷
+    speaks 36 (2 ∷ []) [] ∷
+    speaks 37 (2 ∷ []) [] ∷
+    speaks 38 (2 ∷ []) [] ∷
+    speaks 39 (2 ∷ []) [] ∷
+    speaks 40 (2 ∷ []) [] ∷
+    speaks 41 (2 ∷ []) [] ∷
+    []

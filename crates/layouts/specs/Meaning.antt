@@ -32,7 +32,6 @@ use Rattle.layouts.specs.declared.tag_info.Adkd.{Adkd}
 use Rattle.layouts.specs.declared.tag_info.Adkd.the-variants.{InavCed, InavTiming, SlowMac, Reserved as AdkdReserved}
 use Rattle.layouts.specs.declared.tag_info.AdkdAnswer.{AdkdAnswer}
 use Rattle.layouts.specs.declared.tag_info.AdkdAnswer.the-variants.{Name as AdkdIs, Refused as AdkdRefused}
-use Rattle.layouts.specs.declared.tag_info.Prnd.{Prnd}
 use Rattle.layouts.specs.declared.tag_info.Prnd.the-variants.{GalileoSvid, GalileoConstellation, Reserved as PrndReserved}
 use Rattle.layouts.specs.declared.tag_info.PrndAnswer.{PrndAnswer}
 use Rattle.layouts.specs.declared.tag_info.PrndAnswer.the-variants.{Name as PrndIs, Refused as PrndRefused}
@@ -117,9 +116,9 @@ abbrev pub meaning-adkd : AdkdAnswer → Answer
 meaning-adkd (AdkdIs a) = gives (adkd-numbers a)
 meaning-adkd (AdkdRefused n) = refused n
 
--- "PRND 8 (1..36 satellite, 255 constellation, else Reserved)"
+-- "PRND 8 (1..36 satellite, 255 constellation, else Reserved)": 1 stands before a satellite's number, so that none can pass for the constellation
 abbrev pub meaning-prnd : PrndAnswer → Answer
-meaning-prnd (PrndIs (GalileoSvid n)) = gives (n ∷ [])
+meaning-prnd (PrndIs (GalileoSvid n)) = gives (1 ∷ n ∷ [])
 meaning-prnd (PrndIs GalileoConstellation) = gives (255 ∷ [])
 meaning-prnd (PrndIs PrndReserved) = gives []
 meaning-prnd (PrndRefused n) = refused n

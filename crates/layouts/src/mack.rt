@@ -7,7 +7,6 @@ use crate::tag_info::Adkd;
 use crate::tag_info::AdkdAnswer;
 use crate::tag_info::Prnd;
 use crate::tag_info::PrndAnswer;
-
 ghost use mathlib.Core.Path.{_≡_};
 ghost use mathlib.Core.List.{[], _∷_};
 ghost use Prim.Native.Nat.{_+_, _-_, _*_, _/_, _≤_};
@@ -18,8 +17,25 @@ ghost use Rattle.layouts.specs.Bits.{field};
 ghost use Rattle.layouts.specs.Sizes.{keySizes, tagSizes};
 ghost use Rattle.layouts.specs.Meaning.{meaning-number};
 ghost use Rattle.layouts.specs.Mack.{
-    listed, sizesOf, bytesOf, sizeChecks, mackChecks, tagChecks, bytesFrom, NumTags, Tag0, Macseq, Cop, Tag, TagInfo, PrndNumber, PrndRead,
-    AdkdNumber, AdkdRead, TagCop, Key
+  listed,
+  sizesOf,
+  bytesOf,
+  sizeChecks,
+  mackChecks,
+  tagChecks,
+  bytesFrom,
+  NumTags,
+  Tag0,
+  Macseq,
+  Cop,
+  Tag,
+  TagInfo,
+  PrndNumber,
+  PrndRead,
+  AdkdNumber,
+  AdkdRead,
+  TagCop,
+  Key,
 };
 
 fn key_listed(key_size: usize) -> bool
@@ -151,14 +167,28 @@ pub fn tag(msg: &[u8], key_size: usize, tag_size: usize, n: usize) -> Number
 pub fn tag_info(msg: &[u8], key_size: usize, tag_size: usize, n: usize) -> Number
     ensures { λ r. ⌜ TagInfo (now (msg .entry)) «key_size» «tag_size» n r ⌝ }
 {
-    info_at(msg, refuses_tag(msg, key_size, tag_size, n), n, tag_size, 0, 16)
+    info_at(
+        msg,
+        refuses_tag(msg, key_size, tag_size, n),
+        n,
+        tag_size,
+        0,
+        16,
+    )
 }
 
 // PRND of tag n, as it stands.
 pub fn prnd_number(msg: &[u8], key_size: usize, tag_size: usize, n: usize) -> Number
     ensures { λ r. ⌜ PrndNumber (now (msg .entry)) «key_size» «tag_size» n r ⌝ }
 {
-    info_at(msg, refuses_tag(msg, key_size, tag_size, n), n, tag_size, 0, 8)
+    info_at(
+        msg,
+        refuses_tag(msg, key_size, tag_size, n),
+        n,
+        tag_size,
+        0,
+        8,
+    )
 }
 
 // PRND of tag n.
@@ -186,7 +216,14 @@ pub fn prnd(msg: &[u8], key_size: usize, tag_size: usize, n: usize) -> PrndAnswe
 pub fn adkd_number(msg: &[u8], key_size: usize, tag_size: usize, n: usize) -> Number
     ensures { λ r. ⌜ AdkdNumber (now (msg .entry)) «key_size» «tag_size» n r ⌝ }
 {
-    info_at(msg, refuses_tag(msg, key_size, tag_size, n), n, tag_size, 8, 4)
+    info_at(
+        msg,
+        refuses_tag(msg, key_size, tag_size, n),
+        n,
+        tag_size,
+        8,
+        4,
+    )
 }
 
 // ADKD of tag n.
@@ -208,7 +245,14 @@ pub fn adkd(msg: &[u8], key_size: usize, tag_size: usize, n: usize) -> AdkdAnswe
 pub fn tag_cop(msg: &[u8], key_size: usize, tag_size: usize, n: usize) -> Number
     ensures { λ r. ⌜ TagCop (now (msg .entry)) «key_size» «tag_size» n r ⌝ }
 {
-    info_at(msg, refuses_tag(msg, key_size, tag_size, n), n, tag_size, 12, 4)
+    info_at(
+        msg,
+        refuses_tag(msg, key_size, tag_size, n),
+        n,
+        tag_size,
+        12,
+        4,
+    )
 }
 
 // Copies the bytes from bit `start` on into all of `out`.

@@ -1,7 +1,6 @@
 // The MAC look-up table: which tag of a MACK message authenticates what.
 use crate::answer::Number;
 use crate::tag_info::Adkd;
-
 ghost use mathlib.Core.Path.{_≡_};
 ghost use Prim.Native.Nat.{_<_};
 ghost use lib.ListN.{length, getD};
@@ -94,11 +93,26 @@ fn decoded(code: u8) -> MacLTSlot
     ensures { λ r. ⌜ slot-numbers r ≡ numbers (getD codedSlots code flex) ⌝ }
 {
     match code {
-        0 => MacLTSlot::Fixed { adkd: Adkd::InavCed, object: AuthObject::SelfAuth },
-        1 => MacLTSlot::Fixed { adkd: Adkd::InavCed, object: AuthObject::CrossAuth },
-        2 => MacLTSlot::Fixed { adkd: Adkd::InavTiming, object: AuthObject::SelfAuth },
-        3 => MacLTSlot::Fixed { adkd: Adkd::SlowMac, object: AuthObject::SelfAuth },
-        4 => MacLTSlot::Fixed { adkd: Adkd::SlowMac, object: AuthObject::CrossAuth },
+        0 => MacLTSlot::Fixed {
+            adkd: Adkd::InavCed,
+            object: AuthObject::SelfAuth,
+        },
+        1 => MacLTSlot::Fixed {
+            adkd: Adkd::InavCed,
+            object: AuthObject::CrossAuth,
+        },
+        2 => MacLTSlot::Fixed {
+            adkd: Adkd::InavTiming,
+            object: AuthObject::SelfAuth,
+        },
+        3 => MacLTSlot::Fixed {
+            adkd: Adkd::SlowMac,
+            object: AuthObject::SelfAuth,
+        },
+        4 => MacLTSlot::Fixed {
+            adkd: Adkd::SlowMac,
+            object: AuthObject::CrossAuth,
+        },
         _ => MacLTSlot::Flex,
     }
 }
@@ -144,7 +158,10 @@ fn flx_at(i: usize, msg: usize) -> FlxIndices
         }
         tag += 1;
     }
-    FlxIndices { count: Number::Value(n as u64), indices }
+    FlxIndices {
+        count: Number::Value(n as u64),
+        indices,
+    }
 }
 
 // The FLX tags of message `msg`, 0 or 1, ascending.
@@ -153,11 +170,17 @@ pub fn get_flx_indices(maclt: u8, msg: usize) -> FlxIndices
     ensures { λ r. ⌜ FlxIndicesRead maclt msg r ⌝ }
 {
     if 1 < msg {
-        return FlxIndices { count: Number::Refused(7), indices: [0; 4] };
+        return FlxIndices {
+            count: Number::Refused(7),
+            indices: [0; 4],
+        };
     }
     let i = place(maclt);
     if 12 <= i {
-        return FlxIndices { count: Number::Refused(8), indices: [0; 4] };
+        return FlxIndices {
+            count: Number::Refused(8),
+            indices: [0; 4],
+        };
     }
     flx_at(i, msg)
 }

@@ -1,7 +1,7 @@
 -- `mack::copy_bits`: before each turn the first `i` bytes are copied.
 -- Assumes nothing.
 use lib.ListN.{length-set}
-use mathlib.Core.Path.{_≡_, refl, sym, ap, _∙_}
+use mathlib.Core.Path.{_≡_, refl, ap, _∙_}
 use mathlib.Core.List.{_++_}
 use Prim.Native.Nat.{ℕ, _+_, _*_, _/_, _%_, _≤_, _-_}
 use lib.ListN.{length, take, drop}

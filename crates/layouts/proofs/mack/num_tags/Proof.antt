@@ -2,7 +2,6 @@
 -- Assumes nothing.
 use mathlib.Core.Path.{sym, _∙_}
 use Rattle.layouts.proofs.Tags.{good, num-tags-refused, num-tags-given}
-use native.Mathlib.Omega.{arith}
 use borrow.Author.Needs.{needs}
 use Rattle.layouts.proofs.mack.num_tags.Statement.{statement}
 use Rattle.layouts.proofs.mack.num_tags.Tie as tie

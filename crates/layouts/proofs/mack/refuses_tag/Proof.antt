@@ -1,7 +1,6 @@
 -- `mack::refuses_tag`: the length and the sizes, then the tag number.
 -- Assumes nothing.
 use Rattle.layouts.proofs.Tags.{sizes-known, tag-refused, tag-zero, tag-beyond, tag-there}
-use native.Mathlib.Omega.{arith}
 use borrow.Author.Needs.{needs}
 use Rattle.layouts.proofs.mack.refuses_tag.Statement.{statement}
 use Rattle.layouts.proofs.mack.refuses_tag.Tie as tie

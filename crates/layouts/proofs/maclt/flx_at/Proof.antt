@@ -1,11 +1,11 @@
 -- `maclt::flx_at`: before each turn the FLX tags before `tag` are collected.
 -- Assumes nothing.
-use mathlib.Core.Path.{_≡_, refl, sym, ap, _∙_}
+use mathlib.Core.Path.{_≡_, refl, ap, _∙_}
 use mathlib.Core.Logic.{⊎-elim}
-use Prim.Native.Nat.{ℕ, _+_, _*_, _≤_, _<_, _-_}
+use Prim.Native.Nat.{_+_, _≤_, _-_}
 use native.Mathlib.Omega.{arith}
-use lib.ListN.{length, getD}
-use Rattle.layouts.specs.Maclt.{table, padded, flxOf}
+use lib.ListN.{length}
+use Rattle.layouts.specs.Maclt.{table, padded}
 use Rattle.layouts.specs.MacltReaders.{rowAt}
 use Rattle.layouts.specs.declared.answer.Number.the-variants.{Value}
 use Rattle.layouts.proofs.LookUp.{before, nt-one, nt-few, nt-rule, room, more, kept, flx-all}
@@ -75,10 +75,10 @@ loop-again c =
     let s = c .before .before .before .before in
     let h = c .before .before .before .loop in
     let next : (c .if1 .n ≡ length (before (s .args .i) (s .args .msg) (h .tag + 1))) × (c .if1 .indices ≡ padded (before (s .args .i) (s .args .msg) (h .tag + 1))) =
-        ⊎-elim
-        (λ w. let e = more (s .args .i) (s .args .msg) (h .tag) (s .pre .0) (omega arith) (omega arith) (omega arith) (h .inv .3) (h .inv .4) (w .0 .taken) in (w .2 ∙ e .0, w .1 ∙ e .1))
-        (λ w. let e = kept (s .args .i) (s .args .msg) (h .tag) (s .pre .0) (omega arith) (omega arith) (omega arith) (h .inv .3) (h .inv .4) (w .0 .left) in (w .2 ∙ e .0, w .1 ∙ e .1))
-        (c .if1 .came) in
+    ⊎-elim
+    (λ w. let e = more (s .args .i) (s .args .msg) (h .tag) (s .pre .0) (omega arith) (omega arith) (omega arith) (h .inv .3) (h .inv .4) (w .0 .taken) in (w .2 ∙ e .0, w .1 ∙ e .1))
+    (λ w. let e = kept (s .args .i) (s .args .msg) (h .tag) (s .pre .0) (omega arith) (omega arith) (omega arith) (h .inv .3) (h .inv .4) (w .0 .left) in (w .2 ∙ e .0, w .1 ∙ e .1))
+    (c .if1 .came) in
     (omega arith, omega arith, h .inv .2, next .0, next .1)
 
 returns : tie.Need-returns Inv-loop μ-loop

@@ -1,6 +1,5 @@
 -- `maclt::get_maclt_entry`: the tests of the definition, in its order.
 -- Assumes nothing.
-use Prim.Native.Nat.{_<_}
 use native.Mathlib.Omega.{arith}
 use Rattle.layouts.specs.Maclt.{table}
 use Rattle.layouts.proofs.LookUp.{nt-few, nt-rule, entry-message, entry-tag, entry-unknown, entry-no-tag, entry-slot}
