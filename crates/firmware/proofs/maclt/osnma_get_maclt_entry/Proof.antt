@@ -1,0 +1,25 @@
+-- `osnma_get_maclt_entry`: what the table says of the ID.
+-- Assumes nothing.
+use mathlib.Core.Path.{ap, _∙_}
+use Rattle.firmware.specs.Outcome.{slot}
+use borrow.Author.Needs.{needs}
+use Rattle.firmware.proofs.maclt.osnma_get_maclt_entry.Statement.{statement}
+use Rattle.firmware.proofs.maclt.osnma_get_maclt_entry.Tie as tie
+
+table-id-requires : tie.Need-table-id-requires
+table-id-requires c κs = search needs
+
+get-maclt-entry-requires : tie.Need-get-maclt-entry-requires
+get-maclt-entry-requires c κs = search needs
+
+slot-requires : tie.Need-slot-requires
+slot-requires c κs = search needs
+
+returns : tie.Need-returns
+returns c =
+    let a = c .before .before .before .before .before .before .args in
+    c .slot .ensures ∙ ap (slot (a .flex .now) (a .adkd .now) (a .object .now)) (c .before .before .before .before .get-maclt-entry .ensures ∙ c .before .before .before .before .before .table-id .ensures .entries (a .message) (a .tag))
+
+pub osnma-get-maclt-entry-spec : {M : Type 1} → statement M
+osnma-get-maclt-entry-spec =
+    tie.close (tie.spec table-id-requires get-maclt-entry-requires slot-requires returns)

@@ -1,0 +1,18 @@
+-- `osnma_pkr_padding`: what the reader answers.
+-- Assumes nothing.
+use Rattle.firmware.proofs.Telling.{placed-by}
+use borrow.Author.Needs.{needs}
+use Rattle.firmware.proofs.pkr.osnma_pkr_padding.Statement.{statement}
+use Rattle.firmware.proofs.pkr.osnma_pkr_padding.Tie as tie
+
+padding-shown-requires : tie.Need-padding-shown-requires
+padding-shown-requires c κs = search needs
+
+part-requires : tie.Need-part-requires
+part-requires c κs = search needs
+
+returns : tie.Need-returns
+returns c = search placed-by
+
+pub osnma-pkr-padding-spec : {M : Type 1} → statement M
+osnma-pkr-padding-spec = tie.close (tie.spec padding-shown-requires part-requires returns)
