@@ -1,0 +1,49 @@
+//! The list of recorded answers. A record, little endian: fn u8, mlen u8, olen u8, refusal u8,
+//! a u32, b u32, c u32, v0 u64, v1 u64, v2 u64, then mlen bytes of message and olen bytes of output.
+//! A refused record has no values and no output.
+use crate::call::{Answer, Call, Function, Good, MOST_ROOM};
+
+const HEAD: usize = 40;
+
+pub struct Record {
+    pub function: Function,
+    pub message: Vec<u8>,
+    pub args: [u32; 3],
+    pub answer: Answer,
+}
+
+impl Record {
+    /// None where the call does not fit into a record.
+    pub fn new(call: &Call, answer: Answer) -> Option<Record> {
+        let [a, b, c] = call.args.map(|x| u32::try_from(x).ok());
+        u8::try_from(call.message.len()).ok()?;
+        Some(Record { function: call.function, message: call.message.to_vec(), args: [a?, b?, c?], answer })
+    }
+
+    pub fn write(&self, out: &mut Vec<u8>) {
+        let good = self.answer.unwrap_or_default();
+        let refusal = self.answer.err().unwrap_or(0) as u8;
+        out.extend([self.function.number(), self.message.len() as u8, good.many as u8, refusal]);
+        self.args.iter().for_each(|x| out.extend(x.to_le_bytes()));
+        good.values.iter().for_each(|x| out.extend(x.to_le_bytes()));
+        out.extend(&self.message);
+        out.extend(&good.output[..good.many]);
+    }
+
+    /// The first record of the bytes, and the bytes behind it.
+    pub fn read(bytes: &[u8]) -> Option<(Record, &[u8])> {
+        let head = bytes.get(..HEAD)?;
+        let (mlen, olen) = (usize::from(head[1]), usize::from(head[2]));
+        let message = bytes.get(HEAD..HEAD + mlen)?;
+        let output = bytes.get(HEAD + mlen..HEAD + mlen + olen)?;
+        if olen > MOST_ROOM {
+            return None;
+        }
+        let args = [4, 8, 12].map(|i| u32::from_le_bytes(head[i..i + 4].try_into().unwrap()));
+        let values = [16, 24, 32].map(|i| u64::from_le_bytes(head[i..i + 8].try_into().unwrap()));
+        let good = Good { values, ..Good::default() }.with_output(output);
+        let answer = if head[3] == 0 { Ok(good) } else { Err(head[3].into()) };
+        let function = Function::of_number(head[0])?;
+        Some((Record { function, message: message.to_vec(), args, answer }, &bytes[HEAD + mlen + olen..]))
+    }
+}

@@ -1,0 +1,26 @@
+//! list FILE: the recorded answers as text, a line for each.
+use differential::answers::Record;
+use differential::call::{Call, show};
+use std::process::exit;
+
+fn main() {
+    let Some(path) = std::env::args().nth(1) else {
+        eprintln!("usage: list FILE");
+        exit(2)
+    };
+    let bytes = std::fs::read(&path).unwrap_or_else(|e| {
+        eprintln!("list: {path}: {e}");
+        exit(1)
+    });
+    let mut rest = &bytes[..];
+    while !rest.is_empty() {
+        let Some((record, behind)) = Record::read(rest) else {
+            eprintln!("list: no record at byte {}", bytes.len() - rest.len());
+            exit(1)
+        };
+        rest = behind;
+        let function = record.function;
+        let call = Call::new(function, &record.message, record.args.map(u64::from));
+        println!("{} {call} -> {}", function.number(), show(record.answer, function.results()));
+    }
+}
