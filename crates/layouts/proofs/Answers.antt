@@ -8,7 +8,7 @@ use native.Mathlib.Omega.{arith}
 use lib.ListN.{take, drop, replicate}
 use lib.Dec.{T, ltb, eqb, eqb·suc-zero}
 use borrow.Author.Tests.{lt-ltb, le-ltb, lt-leb, le-leb, eq-eqb, ne-eqb}
-use Rattle.layouts.specs.Readers.{Inside}
+use Rattle.layouts.specs.Inner.{Inside}
 use Rattle.layouts.specs.Meaning.{meaning-part}
 use Rattle.layouts.specs.declared.answer.Part.{Part}
 use Rattle.layouts.specs.declared.answer.Part.the-variants.{Shown, Refused as NotShown}

@@ -13,7 +13,7 @@ use lib.Seq.{drop-cons}
 use borrow.Author.Tests.{eq-eqb, ne-eqb, lt-ltb, le-ltb, le-leb, lt-leb}
 use Rattle.layouts.specs.Answer.{refused, gives, Copied, refusal, answered}
 use Rattle.layouts.specs.Maclt.{Slot, fixed, flex, Row, row, table, rowOf, slots, numbers, entry, flx, flxOf, padded, flxChecks, flxIndices, ntOf}
-use Rattle.layouts.specs.MacltReaders.{placeOf, rowAt, codedSlots}
+use Rattle.layouts.specs.Inner.{placeOf, rowAt, codedSlots}
 use Rattle.layouts.specs.Meaning.{meaning-number}
 use Rattle.layouts.specs.declared.answer.Number.{Number}
 use Rattle.layouts.specs.declared.answer.Number.the-variants.{Value}

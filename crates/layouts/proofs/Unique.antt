@@ -8,13 +8,13 @@ use lib.ListN.{getD}
 use lib.Dec.{eqb}
 use Rattle.layouts.specs.Answer.{Answer, refused, nothing, gives, Copied}
 use Rattle.layouts.specs.Meaning.{meaning-number, meaning-part, meaning-copy, meaning-status, meaning-chain-status, meaning-type, meaning-hash, meaning-mac, meaning-ecdsa, meaning-key-type, meaning-adkd, meaning-prnd, meaning-slot}
-use Rattle.layouts.specs.Readers.{ReadBits}
+use Rattle.layouts.specs.BitReader.{ReadBits}
 use Rattle.layouts.specs.NmaHeader.{NmaStatusRead, ChainIdRead, ChainAndPubkeyStatusRead}
 use Rattle.layouts.specs.DsmHeader.{DsmIdRead, DsmBlockIdRead, DsmTypeRead}
 use Rattle.layouts.specs.DsmKroot as kroot
 use Rattle.layouts.specs.DsmPkr as pkr
 use Rattle.layouts.specs.Mack as mack
-use Rattle.layouts.specs.MacltReaders.{MacltEntryRead, FlxIndicesRead, NtRead}
+use Rattle.layouts.specs.MacltPromises.{MacltEntryRead, FlxIndicesRead, NtRead}
 use Rattle.layouts.specs.declared.answer.Number.{Number}
 use Rattle.layouts.specs.declared.answer.Number.the-variants.{Value, Refused}
 use Rattle.layouts.specs.declared.answer.Part.{Part}

@@ -2,13 +2,14 @@ pub mod Answer
 pub mod Bits
 pub mod Sizes
 pub mod Meaning
-pub mod Readers
+pub mod BitReader
 pub mod NmaHeader
 pub mod DsmHeader
 pub mod DsmKroot
 pub mod DsmPkr
 pub mod Layouts
 pub mod Maclt
-pub mod MacltReaders
+pub mod MacltPromises
+pub mod Inner
 pub mod MacltTable
 pub mod Mack

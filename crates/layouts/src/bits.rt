@@ -9,7 +9,8 @@ ghost use Rattle.layouts.specs.Answer.{part as partOf, shown as shownOf}
 ghost use Rattle.layouts.specs.Bits.{field, row, read};
 ghost use Rattle.layouts.specs.Sizes.{readSize};
 ghost use Rattle.layouts.specs.Meaning.{meaning-number, meaning-part};
-ghost use Rattle.layouts.specs.Readers.{ReadBits, Inside};
+ghost use Rattle.layouts.specs.BitReader.{ReadBits};
+ghost use Rattle.layouts.specs.Inner.{Inside};
 
 fn wide(x: u8) -> u64
     ensures { λ r. ⌜ r ≡ x ⌝ }

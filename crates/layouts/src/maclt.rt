@@ -6,7 +6,8 @@ ghost use Prim.Native.Nat.{_<_};
 ghost use lib.ListN.{length, getD};
 ghost use Rattle.layouts.specs.Meaning.{slot-numbers};
 ghost use Rattle.layouts.specs.Maclt.{table, flex, numbers, flxOf, padded};
-ghost use Rattle.layouts.specs.MacltReaders.{placeOf, rowAt, codedSlots, MacltEntryRead, FlxIndicesRead, NtRead};
+ghost use Rattle.layouts.specs.MacltPromises.{MacltEntryRead, FlxIndicesRead, NtRead};
+ghost use Rattle.layouts.specs.Inner.{placeOf, rowAt, codedSlots};
 
 // S and E of the table.
 pub enum AuthObject {

@@ -5,7 +5,7 @@ use mathlib.Core.Path.{ap, sym}
 use native.Mathlib.Omega.{arith}
 use lib.ListN.{List·getD-eq-default}
 use Rattle.layouts.specs.Maclt.{numbers, flex}
-use Rattle.layouts.specs.MacltReaders.{codedSlots}
+use Rattle.layouts.specs.Inner.{codedSlots}
 use Rattle.layouts.proofs.maclt.decoded.Statement.{statement}
 use Rattle.layouts.proofs.maclt.decoded.Tie as tie
 

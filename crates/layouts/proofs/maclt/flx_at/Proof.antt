@@ -6,7 +6,7 @@ use Prim.Native.Nat.{_+_, _≤_, _-_}
 use native.Mathlib.Omega.{arith}
 use lib.ListN.{length}
 use Rattle.layouts.specs.Maclt.{table, padded}
-use Rattle.layouts.specs.MacltReaders.{rowAt}
+use Rattle.layouts.specs.Inner.{rowAt}
 use Rattle.layouts.specs.declared.answer.Number.the-variants.{Value}
 use Rattle.layouts.proofs.LookUp.{before, nt-one, nt-few, nt-rule, room, more, kept, flx-all}
 use Rattle.layouts.proofs.maclt.flx_at.Statement.{statement}

@@ -7,7 +7,7 @@ use native.Mathlib.Numerals.{add-one}
 use native.Mathlib.Omega.{arith}
 use lib.ListN.{drop, drop-of-length-le}
 use Rattle.layouts.specs.Maclt.{table}
-use Rattle.layouts.specs.MacltReaders.{placeOf}
+use Rattle.layouts.specs.Inner.{placeOf}
 use Rattle.layouts.proofs.LookUp.{place-here, place-on, rows, id-rule}
 use Rattle.layouts.proofs.maclt.place.Statement.{statement}
 use Rattle.layouts.proofs.maclt.place.Tie as tie
