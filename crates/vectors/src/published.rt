@@ -1,0 +1,34 @@
+// The published values, from the annex of the OSNMA Receiver Guidelines v1.3.
+use crate::found;
+use crate::hex;
+use crate::print;
+use crate::published_kroot;
+use crate::published_mack;
+use crate::published_pkr;
+use crate::tally;
+use crate::tally::Tally;
+use layouts::answer::Number;
+
+// One check more, with a line where it fails.
+pub fn held(name: &[u8], fits: bool, t: Tally) -> Tally {
+    let t = t.record(0);
+    if fits {
+        return t;
+    }
+    print::published(name);
+    t.difference()
+}
+
+pub fn number(name: &[u8], answer: Number, expected: u64, t: Tally) -> Tally {
+    held(name, found::is(found::number(answer), expected), t)
+}
+
+pub fn bytes(name: &[u8], answer: &[u8], text: &[u8], t: Tally) -> Tally {
+    held(name, hex::spells(text, answer), t)
+}
+
+pub fn all() -> Tally {
+    let t = published_pkr::checks(tally::none());
+    let t = published_kroot::checks(t);
+    published_mack::checks(t)
+}

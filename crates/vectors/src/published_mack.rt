@@ -1,0 +1,53 @@
+// A.6.5.1: two tags of satellite 2, in a MACK message of 40-bit tags and a key of 128 bits.
+use crate::found;
+use crate::hex;
+use crate::published;
+use crate::replay_mack;
+use crate::tally::Tally;
+use layouts::mack;
+
+// Tag 0, and behind MACSEQ, which is not published, COP 15. The later tag as tag 3, a place that is not published, with
+// PRND 2, ADKD 4 and COP 15. The other tags and the key are zeros.
+fn build(msg: &mut [u8]) {
+    hex::put(msg, 0, b"E37BC4F858000F");
+    hex::put(msg, 21, b"7BB238C883024F");
+}
+
+fn tag_0(msg: &[u8], t: Tally) -> Tally {
+    let t = published::number(b"A.6.5.1 tag 0", mack::tag0(msg, 128, 40), 0xE37BC4F858, t);
+    published::number(b"A.6.5.1 COP of tag 0", mack::cop(msg, 128, 40), 15, t)
+}
+
+fn tag_3(msg: &[u8], t: Tally) -> Tally {
+    let t = published::number(
+        b"A.6.5.1 later tag",
+        mack::tag(msg, 128, 40, 3),
+        0x7BB238C883,
+        t,
+    );
+    let t = published::number(
+        b"A.6.5.1 info of the later tag",
+        mack::tag_info(msg, 128, 40, 3),
+        0x024F,
+        t,
+    );
+    let t = published::held(
+        b"A.6.5.1 PRND",
+        found::is(replay_mack::prnd(msg, 128, 40, 3), 2),
+        t,
+    );
+    let t = published::held(
+        b"A.6.5.1 ADKD",
+        found::is(replay_mack::adkd(msg, 128, 40, 3), 4),
+        t,
+    );
+    published::number(b"A.6.5.1 COP", mack::tag_cop(msg, 128, 40, 3), 15, t)
+}
+
+pub fn checks(t: Tally) -> Tally {
+    let mut msg = [0u8; 60];
+    let view: &mut [u8] = &mut msg;
+    build(view);
+    let t = tag_0(view, t);
+    tag_3(view, t)
+}
