@@ -1,0 +1,3 @@
+pub mod Dsm
+pub mod Promises
+pub mod Recovery

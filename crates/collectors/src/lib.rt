@@ -1,0 +1,2 @@
+// The collectors of messages. They see only what `layouts` promises.
+pub mod dsm;
