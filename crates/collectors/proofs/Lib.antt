@@ -1,3 +1,5 @@
 pub mod Blocks
+pub mod Pages
 pub mod Recovery
+pub mod SubframeUnique
 pub mod Unique

@@ -1,3 +1,6 @@
 pub mod Dsm
+pub mod Inner
 pub mod Promises
 pub mod Recovery
+pub mod Subframe
+pub mod SubframePromises

@@ -1,2 +1,3 @@
 // The collectors of messages. They see only what `layouts` promises.
 pub mod dsm;
+pub mod subframe;
