@@ -1,5 +1,9 @@
 pub mod Blocks
 pub mod Pages
 pub mod Recovery
+pub mod Rising
+pub mod Runs
+pub mod SubframeRecovery
 pub mod SubframeUnique
+pub mod Taken
 pub mod Unique

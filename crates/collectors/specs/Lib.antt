@@ -4,3 +4,6 @@ pub mod Promises
 pub mod Recovery
 pub mod Subframe
 pub mod SubframePromises
+pub mod Runs
+pub mod Rising
+pub mod SubframeRecovery
