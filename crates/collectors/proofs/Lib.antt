@@ -1,9 +1,11 @@
+pub mod Basics
 pub mod Blocks
+pub mod DsmRecovery
+pub mod DsmRun
 pub mod Pages
-pub mod Recovery
 pub mod Rising
 pub mod Runs
 pub mod SubframeRecovery
+pub mod SubframeRun
 pub mod SubframeUnique
-pub mod Taken
 pub mod Unique

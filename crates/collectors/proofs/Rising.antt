@@ -4,7 +4,7 @@ use Prim.Native.Nat.{ℕ, zero, suc, _+_, _≤_, _<_, zero-le}
 use native.Mathlib.Nat.{le-refl, eq-or-lt-of-le, le-of-suc-le-suc, not-suc-le-zero}
 use native.Mathlib.Decide.{decLe}
 use native.Mathlib.Omega.{arith}
-use mathlib.Core.Path.{_≡_, refl, sym, ap, subst, _∙_}
+use mathlib.Core.Path.{_≡_, refl, subst}
 use mathlib.Core.Logic.{⊎-elim, _↔_}
 use mathlib.Core.List.{List, [], _∷_, _++_}
 use mathlib.Core.Bool.{Bool, true, false, cond}
@@ -36,6 +36,7 @@ module _ {A : Type 0} (hit : A → ℕ → Bool) where
   abbrev pub taken : ℕ → List A → ℕ → ℕ
   taken n [] k = 0
   taken n (a ∷ xs) k = cond (hit a n) (cond (eqb k n) 0 (suc (taken (suc n) xs k))) (suc (taken n xs k))
+
 module _ {A : Type 0} (hit : A → ℕ → Bool) (d : A) where
   abbrev Chain : List A → ℕ → ℕ → Type 0
   Chain xs n m = Choice hit d xs n m

@@ -8,7 +8,7 @@ use mathlib.Core.Logic.{_↔_}
 use mathlib.Core.List.{List, [], _∷_, _++_}
 use mathlib.Core.Bool.{Bool, true, false, cond, not, _&&_}
 use lib.ListN.{length, getD, take, drop, replicate, length-drop, getD-replicate}
-use lib.Seq.{length-take-le, getD-take, getD-drop, ext-getD, drop-drop, take-add}
+use lib.Seq.{length-take-le, getD-take, getD-drop, drop-drop, take-add}
 use lib.Dec.{leb, ltb, eqb}
 use borrow.Author.Tests.{le-leb, le-ltb, eq-eqb, ne-eqb, eqb-true, eqb-false, ltb-false, leb-true, leb-false, not-false}
 use Rattle.layouts.specs.Answer.{Answer, refused, nothing, gives, shown, Check, _when_, refusal}
@@ -16,16 +16,11 @@ use Rattle.layouts.proofs.Answers.{none-fails}
 use Rattle.collectors.specs.Subframe.{State, new, Page, subframeOf, wordOf, Fed, small, viewChecks, feedChecks, changed, offered, feed, view}
 use Rattle.collectors.specs.Runs.{goesOn, runFrom}
 use Rattle.collectors.specs.SubframeRecovery.{callChecks, isAdmitted, sameSubframe, before, grown, run, after, hasWord, noPage, Words, hkrootOf, mackOf, message, Built, ComesOut, Alike, Viewed, SubframesRecover}
+use Rattle.collectors.proofs.Basics.{and-true, part-is}
 use Rattle.collectors.proofs.Pages.{feed-refused, feed-admitted}
 use Rattle.collectors.proofs.Rising.{taken-chain, shorter, earliest, reaches, chosen-kept}
 use Rattle.collectors.proofs.Runs.{goes-on, before-twice, run-before, run-from, kept-by-all}
-use Rattle.collectors.proofs.Taken.{words, pageOf, words-few, words-up, Of, Core, Step, offered-step}
-
--- bytes of a list, one by one
-part-is : (w : ℕ) (l : List ℕ) (a : ℕ) (x : List ℕ) → a + w ≤ length l → length x ≡ w → ((i : ℕ) → i < w → getD l (a + i) 0 ≡ getD x i 0) → take w (drop a l) ≡ x
-part-is w l a x room long same =
-    let many : length (take w (drop a l)) ≡ w = length-take-le w (drop a l) (rw length-drop (omega arith)) in
-    ext-getD 0 (take w (drop a l)) x (many ∙ sym long) (λ i h. let h : i < w = rw many at h in getD-take w (drop a l) i 0 h ∙ getD-drop a l i 0 ∙ same i h)
+use Rattle.collectors.proofs.SubframeRun.{words, pageOf, words-few, words-up, Of, Core, Step, offered-step}
 
 -- The messages of a satellite, from the pages that it took.
 module _ (n : ℕ) (s : State) (r : List Page) (o : Of n s r) (some : 1 ≤ n) (few : n ≤ 36) (h540 : length (s .hkroot) ≡ 540) (m2160 : length (s .mack) ≡ 2160) where
@@ -178,7 +173,7 @@ module _ (week subframe : ℕ) (s : State) (r : List Page) (k : Core week subfra
   core-viewed n some few =
       record {
         pair = λ w. let all : 15 ≤ words n r = reaches (hasWord n) noPage r 0 15 .1 w in
-          (built n s r (k .of n some few) some few (k .h540) (k .m2160) all, λ size. core-view size n ∙ rw (in-range n some few, le-leb 15 (words n r) all));
+            (built n s r (k .of n some few) some few (k .h540) (k .m2160) all, λ size. core-view size n ∙ rw (in-range n some few, le-leb 15 (words n r) all));
         none = λ w size. core-view size n ∙ rw (in-range n some few) (go size w (leb 15 (words n r)) refl);
       }
     where
@@ -253,10 +248,6 @@ new-holds h m lh lm =
     none : (b : Bool) → cond {A = List Page} b [] [] ≡ []
     none true = refl
     none false = refl
-
-and-true : (x y : Bool) → (x && y) ≡ true → (x ≡ true) × (y ≡ true)
-and-true true y h = (refl, h)
-and-true false y h = let z : _≡_ {A = ℕ} 0 1 = cc in absurd (omega arith)
 
 same-as-first : (x c d : Page) → sameSubframe x c ≡ true → sameSubframe x d ≡ sameSubframe c d
 same-as-first x c d e =
@@ -366,13 +357,16 @@ module _ (s : State) (r : List Page) (w : Holds s r) (p : Page) (e : isAdmitted 
   all-there h = rw (grown-is s r w p e) (leb-true 15 (words n (before r p ++ (p ∷ []))) h)
 
   comes-out : ComesOut (feed s p .answer) p ↔ (Words n (grown r p) × (Words n (before r p) → ⊥))
-  comes-out =
-      (λ z. let q = out-now .0 z in
-        (reaches (hasWord n) noPage (grown r p) 0 15 .0 (all-there (q .0)),
-         λ c. absurd (omega (arith, leb-false 15 (words n (before r p)) (q .1), reaches (hasWord n) noPage (before r p) 0 15 .1 c))),
-       λ z. out-now .1
-        (le-leb 15 (words n (before r p ++ (p ∷ []))) (rw (grown-is s r w p e) at (reaches (hasWord n) noPage (grown r p) 0 15 .1 (z .0))),
-         not-yet (leb 15 (words n (before r p))) refl (z .1)))
+  comes-out = (
+    λ z. let q = out-now .0 z in (
+      reaches (hasWord n) noPage (grown r p) 0 15 .0 (all-there (q .0)),
+      λ c. absurd (omega (arith, leb-false 15 (words n (before r p)) (q .1), reaches (hasWord n) noPage (before r p) 0 15 .1 c)),
+    ),
+    λ z. out-now .1 (
+      le-leb 15 (words n (before r p ++ (p ∷ []))) (rw (grown-is s r w p e) at (reaches (hasWord n) noPage (grown r p) 0 15 .1 (z .0))),
+      not-yet (leb 15 (words n (before r p))) refl (z .1),
+    ),
+  )
     where
       not-yet : (b : Bool) → leb 15 (words n (before r p)) ≡ b → (Words n (before r p) → ⊥) → b ≡ false
       not-yet true h none = absurd (none (reaches (hasWord n) noPage (before r p) 0 15 .0 (leb-true 15 (words n (before r p)) h)))
@@ -410,15 +404,16 @@ stays s r w p on n some few all = go (isAdmitted p) refl
         let same = changed-memory s (p .week) (subframeOf (p .time)) in
         let full : 15 ≤ words n (before r p) = rw here (reaches (hasWord n) noPage r 0 15 .1 all) in
         let more : words n (before r p) ≤ words n (before r p ++ (p ∷ [])) = words-up n (before r p) p in
-        let kept : (j : ℕ) → j < 15 → pageOf n (before r p ++ (p ∷ [])) j ≡ pageOf n (before r p) j = (λ j l. chosen-kept (hasWord n) noPage (before r p) 0 p j (omega arith) (omega (arith, full, l))) in
-        (hkroot-message n (feed s p .state) (before r p ++ (p ∷ [])) (k .of n some few) some few (k .h540) (k .m2160) (omega (arith, full, more))
-         ∙ hkroot-same (pageOf n (before r p ++ (p ∷ []))) (pageOf n (before r p)) 15 kept
-         ∙ sym (hkroot-message n (changed s (p .week) (subframeOf (p .time))) (before r p) (c .of n some few) some few (c .h540) (c .m2160) full)
-         ∙ ap (message 15 n) (same .0),
-         mack-message n (feed s p .state) (before r p ++ (p ∷ [])) (k .of n some few) some few (k .h540) (k .m2160) (omega (arith, full, more))
-         ∙ mack-same (pageOf n (before r p ++ (p ∷ []))) (pageOf n (before r p)) 15 kept
-         ∙ sym (mack-message n (changed s (p .week) (subframeOf (p .time))) (before r p) (c .of n some few) some few (c .h540) (c .m2160) full)
-         ∙ ap (message 60 n) (same .1))
+        let kept : (j : ℕ) → j < 15 → pageOf n (before r p ++ (p ∷ [])) j ≡ pageOf n (before r p) j = (λ j l. chosen-kept (hasWord n) noPage (before r p) 0 p j (omega arith) (omega (arith, full, l))) in (
+          hkroot-message n (feed s p .state) (before r p ++ (p ∷ [])) (k .of n some few) some few (k .h540) (k .m2160) (omega (arith, full, more))
+              ∙ hkroot-same (pageOf n (before r p ++ (p ∷ []))) (pageOf n (before r p)) 15 kept
+              ∙ sym (hkroot-message n (changed s (p .week) (subframeOf (p .time))) (before r p) (c .of n some few) some few (c .h540) (c .m2160) full)
+              ∙ ap (message 15 n) (same .0),
+          mack-message n (feed s p .state) (before r p ++ (p ∷ [])) (k .of n some few) some few (k .h540) (k .m2160) (omega (arith, full, more))
+              ∙ mack-same (pageOf n (before r p ++ (p ∷ []))) (pageOf n (before r p)) 15 kept
+              ∙ sym (mack-message n (changed s (p .week) (subframeOf (p .time))) (before r p) (c .of n some few) some few (c .h540) (c .m2160) full)
+              ∙ ap (message 60 n) (same .1),
+        )
 
 pub subframes-recover : SubframesRecover
 subframes-recover h m lh lm ps p =

@@ -1,9 +1,9 @@
 pub mod Dsm
+pub mod DsmRecovery
 pub mod Inner
 pub mod Promises
-pub mod Recovery
+pub mod Rising
+pub mod Runs
 pub mod Subframe
 pub mod SubframePromises
-pub mod Runs
-pub mod Rising
 pub mod SubframeRecovery

@@ -9,7 +9,7 @@ use mathlib.Core.Logic.{_↔_}
 use lib.ListN.{length, getD, take, drop}
 use lib.Dec.{ltb, eqb}
 use Rattle.layouts.specs.Answer.{Answer, refused, nothing, gives, shown, Check, _when_, refusal}
-use Rattle.collectors.specs.Subframe.{State, new, Page, wordOf, subframeOf, Fed, feed, view}
+use Rattle.collectors.specs.Subframe.{State, new, Page, wordOf, subframeOf, feed, view}
 use Rattle.collectors.specs.Runs.{afterAll, goesOn, runBefore, runWith, runOf}
 use Rattle.collectors.specs.Rising.{Choice, Earliest}
 

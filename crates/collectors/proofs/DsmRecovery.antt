@@ -1,151 +1,26 @@
 -- The DSM collector recovers: what the record and the memory say is what the run says.
 -- Assumes nothing.
 use mathlib.Core.Path.{_≡_, refl, sym, ap, _∙_, subst, subst⁻¹}
-use mathlib.Core.List.{List, [], _∷_, _++_, append-assoc}
+use mathlib.Core.List.{List, [], _∷_, _++_}
 use mathlib.Core.Bool.{Bool, true, false, cond, not, _&&_}
-use Prim.Native.Nat.{ℕ, zero, suc, _+_, _-_, _*_, _/_, _%_, _^_, _≤_, _<_}
+use Prim.Native.Nat.{ℕ, zero, suc, _+_, _-_, _*_, _≤_, _<_}
 use native.Mathlib.Omega.{arith}
-use lib.Dec.{leb, eqb, eqb·suc-zero}
+use lib.Dec.{eqb, eqb·suc-zero}
 use lib.Arith.{lt-of-le-ne}
 use native.Mathlib.Nat.{le-of-suc-le-suc}
-use lib.ListN.{length, getD, set, take, drop, replicate, length-append, length-drop, length-set, List·getD-append, getD-replicate}
-use lib.Seq.{length-take-le, getD-take, getD-drop, getD-append-add, ext-getD, getD-set-same, getD-set-other, take-add}
-use borrow.Author.Tests.{leb-true, leb-false, eqb-true, eqb-false, eq-eqb, ne-eqb, not-true}
+use lib.ListN.{length, getD, set, take, replicate, length-set, getD-replicate}
+use lib.Seq.{getD-set-same, getD-set-other, take-add}
+use borrow.Author.Tests.{eqb-true, eqb-false, eq-eqb, ne-eqb, not-true}
 use Rattle.layouts.specs.Answer.{Answer, refused, nothing, gives, shown}
-use Rattle.layouts.specs.Bits.{the, value, field, bit}
-use Rattle.layouts.specs.Sizes.{size, krootBlocks, pkrBlocks}
+use Rattle.layouts.specs.Bits.{the}
 use Rattle.layouts.specs.DsmHeader.{dsmType}
-use Rattle.layouts.specs.DsmKroot.{krootLayout}
-use Rattle.layouts.specs.DsmPkr.{pkrLayout}
-use Rattle.layouts.proofs.Fields.{field-in-byte}
 use Rattle.collectors.specs.Dsm.{State, new, Fed, idOf, blockOf, begun, put, stored, counted, allHeld, finished, taken, view}
-use Rattle.collectors.specs.Recovery.{Call, isAdmitted, fedTo, after, continues, before, grown, runFrom, run, fed, firstCopy, counts, allFed, isWhole, firstCopies, Alike, DsmRecovers}
+use Rattle.collectors.specs.DsmRecovery.{Call, isAdmitted, fedTo, after, sameId, before, grown, run, fed, firstCopy, counts, allFed, isWhole, firstCopies, Alike, DsmRecovers}
+use Rattle.collectors.specs.Runs.{goesOn, runFrom}
+use Rattle.collectors.proofs.Runs.{goes-on, before-twice, run-before, run-from, kept-by-all}
+use Rattle.collectors.proofs.Basics.{and-true}
+use Rattle.collectors.proofs.DsmRun.{fed-more, copy-kept, copy-new, copy-none, same-bool, yes-or, or-no, blockAt, put-long, block-put, block-other, counted-byte, first-byte, counted-none, fed-stays, nonzero, counts-stay, whole-stays}
 use Rattle.collectors.proofs.Blocks.{counted-few, header-id, header-block, other-block, admitted, feed-refused, feed-taken, begun-same, begun-other, view-given, view-undone}
-
--- a run with one call more
-fed-more : (n : ℕ) (r : List Call) (c : Call) → fed n (r ++ (c ∷ [])) ≡ cond (fed n r) true (eqb (blockOf (c .header)) n)
-unfolding fed
-fed-more n [] c = go (eqb (blockOf (c .header)) n)
-  where
-    go : (b : Bool) → cond b true false ≡ b
-    go true = refl
-    go false = refl
-fed-more n (d ∷ r) c = go (eqb (blockOf (d .header)) n) (fed-more n r c)
-  where
-    go : (b : Bool) → fed n (r ++ (c ∷ [])) ≡ cond (fed n r) true (eqb (blockOf (c .header)) n)
-        → cond b true (fed n (r ++ (c ∷ []))) ≡ cond (cond b true (fed n r)) true (eqb (blockOf (c .header)) n)
-    go true h = refl
-    go false h = h
-
-copy-kept : (n : ℕ) (r : List Call) (c : Call) → fed n r ≡ true → firstCopy n (r ++ (c ∷ [])) ≡ firstCopy n r
-unfolding fed firstCopy
-copy-kept n [] c h = let z : _≡_ {A = ℕ} 0 1 = cc in absurd (omega arith)
-copy-kept n (d ∷ r) c h = go (eqb (blockOf (d .header)) n) (copy-kept n r c) h
-  where
-    go : (b : Bool) → (fed n r ≡ true → firstCopy n (r ++ (c ∷ [])) ≡ firstCopy n r) → cond b true (fed n r) ≡ true
-        → cond b (d .block) (firstCopy n (r ++ (c ∷ []))) ≡ cond b (d .block) (firstCopy n r)
-    go true ih h = refl
-    go false ih h = ih h
-
-copy-new : (n : ℕ) (r : List Call) (c : Call) → fed n r ≡ false → blockOf (c .header) ≡ n → firstCopy n (r ++ (c ∷ [])) ≡ c .block
-unfolding fed firstCopy
-copy-new n [] c h e = rw (eq-eqb (blockOf (c .header)) n e)
-copy-new n (d ∷ r) c h e = go (eqb (blockOf (d .header)) n) (λ k. copy-new n r c k e) h
-  where
-    go : (b : Bool) → (fed n r ≡ false → firstCopy n (r ++ (c ∷ [])) ≡ c .block) → cond b true (fed n r) ≡ false
-        → cond b (d .block) (firstCopy n (r ++ (c ∷ []))) ≡ c .block
-    go true ih h = let z : _≡_ {A = ℕ} 0 1 = cc in absurd (omega arith)
-    go false ih h = ih h
-
-copy-none : (n : ℕ) (r : List Call) → fed n r ≡ false → firstCopy n r ≡ []
-unfolding fed firstCopy
-copy-none n [] h = refl
-copy-none n (d ∷ r) h = go (eqb (blockOf (d .header)) n) (copy-none n r) h
-  where
-    go : (b : Bool) → (fed n r ≡ false → firstCopy n r ≡ []) → cond b true (fed n r) ≡ false → cond b (d .block) (firstCopy n r) ≡ []
-    go true ih h = let z : _≡_ {A = ℕ} 0 1 = cc in absurd (omega arith)
-    go false ih h = ih h
-
-same-bool : (x y : Bool) → (x ≡ true → y ≡ true) → (y ≡ true → x ≡ true) → x ≡ y
-same-bool true y f g = sym (f refl)
-same-bool false true f g = g refl
-same-bool false false f g = refl
-
-yes-or : (x : Bool) → cond x true true ≡ true
-yes-or true = refl
-yes-or false = refl
-
-or-no : (x : Bool) → cond x true false ≡ x
-or-no true = refl
-or-no false = refl
-
--- a block of the memory
-abbrev blockAt : ℕ → List ℕ → List ℕ
-blockAt n m = take 13 (drop (13 * n) m)
-
-block-long : (n : ℕ) (m : List ℕ) → length m ≡ 208 → n < 16 → length (blockAt n m) ≡ 13
-block-long n m l h = length-take-le 13 (drop (13 * n) m) (rw length-drop (omega arith))
-
-block-byte : (n : ℕ) (m : List ℕ) (k : ℕ) → k < 13 → getD (blockAt n m) k 0 ≡ getD m (13 * n + k) 0
-block-byte n m k h = getD-take 13 (drop (13 * n) m) k 0 h ∙ getD-drop (13 * n) m k 0
-
-module _ (m : List ℕ) (b : ℕ) (block : List ℕ) (lm : length m ≡ 208) (lb : length block ≡ 13) (hb : b < 16) where
-  front-long : length (take (13 * b) m) ≡ 13 * b
-  front-long = length-take-le (13 * b) m (omega arith)
-
-  pub put-long : length (put m b block) ≡ 208
-  put-long = rw (length-append, length-append, front-long, length-drop) (omega arith)
-
-  put-before : (j : ℕ) → j < 13 * b → getD (put m b block) j 0 ≡ getD m j 0
-  put-before j h =
-      ap (λ (l : List ℕ). getD l j 0) (append-assoc (take (13 * b) m) block (drop (13 * b + 13) m))
-      ∙ List·getD-append (take (13 * b) m) (block ++ drop (13 * b + 13) m) 0 j (rw front-long h) ∙ getD-take (13 * b) m j 0 h
-
-  put-at : (k : ℕ) → k < 13 → getD (put m b block) (13 * b + k) 0 ≡ getD block k 0
-  put-at k h =
-      ap (λ (l : List ℕ). getD l (13 * b + k) 0) (append-assoc (take (13 * b) m) block (drop (13 * b + 13) m))
-      ∙ ap (λ (j : ℕ). getD (take (13 * b) m ++ (block ++ drop (13 * b + 13) m)) (j + k) 0) (sym front-long)
-      ∙ getD-append-add (take (13 * b) m) (block ++ drop (13 * b + 13) m) k 0 ∙ List·getD-append block (drop (13 * b + 13) m) 0 k (rw lb h)
-
-  put-after : (k : ℕ) → getD (put m b block) (13 * b + 13 + k) 0 ≡ getD m (13 * b + 13 + k) 0
-  put-after k =
-      let ends : 13 * b + 13 ≡ length (take (13 * b) m ++ block) = sym (length-append (take (13 * b) m) block ∙ rw (front-long, lb)) in
-      ap (λ (j : ℕ). getD (put m b block) (j + k) 0) ends ∙ getD-append-add (take (13 * b) m ++ block) (drop (13 * b + 13) m) k 0 ∙ getD-drop (13 * b + 13) m k 0
-
-  pub block-put : blockAt b (put m b block) ≡ block
-  block-put =
-      ext-getD 0 (blockAt b (put m b block)) block (block-long b (put m b block) put-long hb ∙ sym lb)
-      (λ k h. let h : k < 13 = rw (block-long b (put m b block) put-long hb) at h in block-byte b (put m b block) k h ∙ put-at k h)
-
-  pub block-other : (n : ℕ) → n < 16 → (n ≡ b → ⊥) → blockAt n (put m b block) ≡ blockAt n m
-  block-other n hn ne =
-      ext-getD 0 (blockAt n (put m b block)) (blockAt n m) (block-long n (put m b block) put-long hn ∙ sym (block-long n m lm hn))
-      (λ k h. let h : k < 13 = rw (block-long n (put m b block) put-long hn) at h in block-byte n (put m b block) k h ∙ go k h (leb (13 * n + k) (13 * b)) refl ∙ sym (block-byte n m k h))
-    where
-      go : (k : ℕ) → k < 13 → (x : Bool) → leb (13 * n + k) (13 * b) ≡ x → getD (put m b block) (13 * n + k) 0 ≡ getD m (13 * n + k) 0
-      go k h true e = put-before (13 * n + k) (omega (arith, leb-true (13 * n + k) (13 * b) e))
-      go k h false e =
-          let far : 13 * n + k ≡ 13 * b + 13 + (13 * n + k - (13 * b + 13)) = omega (arith, leb-false (13 * n + k) (13 * b) e) in
-          rw far (put-after (13 * n + k - (13 * b + 13)))
-
--- The count goes by byte 0 alone.
-counted-byte : (t : ℕ) (m l : List ℕ) → getD m 0 0 ≡ getD l 0 0 → counted t m ≡ counted t l
-unfolding counted
-counted-byte t m l e =
-    let half : field m 0 4 ≡ field l 0 4 = field-in-byte m 0 0 4 (omega arith) ∙ ap (λ (x : ℕ). x / 2 ^ 4 % 2 ^ 4) e ∙ sym (field-in-byte l 0 0 4 (omega arith)) in
-    rw half
-
-first-byte : (m : List ℕ) → getD m 0 0 ≡ getD (blockAt 0 m) 0 0
-first-byte [] = refl
-first-byte (x ∷ m) = refl
-
-counted-none : (t : ℕ) → counted t [] ≡ 0
-unfolding counted krootBlocks pkrBlocks field bit
-counted-none t = go (eqb t 0)
-  where
-    go : (b : Bool) → cond b (size krootBlocks (value (the "NB_DK" krootLayout) [])) (size pkrBlocks (value (the "NB_DP" pkrLayout) [])) ≡ 0
-    go true = refl
-    go false = refl
 
 -- What the record and the memory say of a run of the ID i.
 record Core (i : ℕ) (s : State) (r : List Call) : Type 0 where
@@ -166,10 +41,6 @@ record Flags (i : ℕ) (s : State) (r : List Call) : Type 0 where
   undone : s .done ≡ false
   flag : (n : ℕ) → n < 16 → getD (s .held) n false ≡ fed n r
   copy : (n : ℕ) → n < 16 → getD (s .held) n false ≡ true → blockAt n (s .memory) ≡ firstCopy n r
-
-and-true : (x y : Bool) → (x && y) ≡ true → (x ≡ true) × (y ≡ true)
-and-true true y h = (refl, h)
-and-true false y h = let z : _≡_ {A = ℕ} 0 1 = cc in absurd (omega arith)
 
 held-below : (held : List Bool) (n : ℕ) → allHeld held n ≡ true → (k : ℕ) → k < n → getD held k false ≡ true
 unfolding allHeld
@@ -326,35 +197,6 @@ finished-step i s old r f w = go (isWhole i r) refl
           answer = rw (no′, e);
         }
 
--- A collector that is done stays as it is, and the run stays whole.
-fed-stays : (n : ℕ) (r : List Call) (c : Call) → fed n r ≡ true → fed n (r ++ (c ∷ [])) ≡ true
-fed-stays n r c h = fed-more n r c ∙ rw h
-
-all-stays : (n : ℕ) (r : List Call) (c : Call) → allFed n r ≡ true → allFed n (r ++ (c ∷ [])) ≡ true
-unfolding allFed
-all-stays zero r c h = refl
-all-stays (suc n) r c h = let p = and-true (allFed n r) (fed n r) h in rw (all-stays n r c (p .0), fed-stays n r c (p .1))
-
-fed-first : (n : ℕ) (r : List Call) → 0 < n → allFed n r ≡ true → fed 0 r ≡ true
-unfolding allFed
-fed-first zero r l h = absurd (omega arith)
-fed-first (suc zero) r l h = and-true (allFed zero r) (fed zero r) h .1
-fed-first (suc (suc n)) r l h = fed-first (suc n) r (omega arith) (and-true (allFed (suc n) r) (fed (suc n) r) h .0)
-
-nonzero : (n : ℕ) → not (eqb n 0) ≡ true → 0 < n
-nonzero zero e = let z : _≡_ {A = ℕ} 0 1 = cc in absurd (omega arith)
-nonzero (suc n) e = omega arith
-
-counts-stay : (i : ℕ) (r : List Call) (c : Call) → isWhole i r ≡ true → counts i (r ++ (c ∷ [])) ≡ counts i r
-counts-stay i r c w =
-    let p = and-true (not (eqb (counts i r) 0)) (allFed (counts i r) r) w in
-    ap (counted (dsmType i)) (copy-kept 0 r c (fed-first (counts i r) r (nonzero (counts i r) (p .0)) (p .1)))
-
-whole-stays : (i : ℕ) (r : List Call) (c : Call) → isWhole i r ≡ true → isWhole i (r ++ (c ∷ [])) ≡ true
-whole-stays i r c w =
-    let p = and-true (not (eqb (counts i r) 0)) (allFed (counts i r) r) w in
-    rw (counts-stay i r c w, p .0, all-stays (counts i r) r c (p .1))
-
 done-core : (i : ℕ) (s : State) (r : List Call) → Core i s r → s .done ≡ true → (c : Call) → Core i s (r ++ (c ∷ []))
 done-core i s r k d c =
     let w : isWhole i r ≡ true = sym (k .done-is) ∙ d in
@@ -416,16 +258,10 @@ new-holds : (m : List ℕ) → length m ≡ 208 → Holds (new m) []
 unfolding begun
 new-holds m l = record { long = l; small = omega arith; at-run = λ c. fresh-core (idOf (c .header)) (new m) l }
 
--- Which run the next call is in.
-goes-on : (r : List Call) (c d : Call) → continues (before r c ++ (c ∷ [])) d ≡ eqb (idOf (c .header)) (idOf (d .header))
-goes-on [] c d = refl
-goes-on (x ∷ r) c d = go (eqb (idOf (x .header)) (idOf (c .header))) refl
-  where
-    go : (b : Bool) → eqb (idOf (x .header)) (idOf (c .header)) ≡ b → continues (cond b (x ∷ r) [] ++ (c ∷ [])) d ≡ eqb (idOf (c .header)) (idOf (d .header))
-    go true e = ap (λ (k : ℕ). eqb k (idOf (d .header))) (eqb-true (idOf (x .header)) (idOf (c .header)) e)
-    go false e = refl
+same-as-first : (x c d : Call) → sameId x c ≡ true → sameId x d ≡ sameId c d
+same-as-first x c d e = ap (λ (k : ℕ). eqb k (idOf (d .header))) (eqb-true (idOf (x .header)) (idOf (c .header)) e)
 
-next-run : (i : ℕ) (s : State) (r : List Call) → s .came ≡ true → Core i s r → (d : Call) → continues r d ≡ eqb i (idOf (d .header)) → Core (idOf (d .header)) (begun s (idOf (d .header))) (before r d)
+next-run : (i : ℕ) (s : State) (r : List Call) → s .came ≡ true → Core i s r → (d : Call) → goesOn isAdmitted sameId r d ≡ eqb i (idOf (d .header)) → Core (idOf (d .header)) (begun s (idOf (d .header))) (before r d)
 next-run i s r came k d e = go (eqb i (idOf (d .header))) refl
   where
     go : (b : Bool) → eqb i (idOf (d .header)) ≡ b → Core (idOf (d .header)) (begun s (idOf (d .header))) (before r d)
@@ -503,7 +339,7 @@ module _ (s : State) (r : List Call) (w : Holds s r) (c : Call) where
         record {
           long = k .long;
           small = rw (k .id-is) (header-id (c .header));
-          at-run = λ d. next-run (idOf (c .header)) (fedTo s c .state) (grown r c) fed-came k d (ap (λ (l : List Call). continues l d) grown-is ∙ goes-on r c d);
+          at-run = λ d. next-run (idOf (c .header)) (fedTo s c .state) (grown r c) fed-came k d (ap (λ (l : List Call). goesOn isAdmitted sameId l d) grown-is ∙ goes-on isAdmitted sameId same-as-first r c d);
         }
 
   still-holds : isAdmitted c ≡ false → Holds (fedTo s c .state) (grown r c)
@@ -518,9 +354,8 @@ module _ (s : State) (r : List Call) (w : Holds s r) (c : Call) where
       go true e = fed-holds e
       go false e = still-holds e
 
-after-holds : (s : State) (r cs : List Call) → Holds s r → Holds (after s cs) (runFrom r cs)
-after-holds s r [] w = w
-after-holds s r (c ∷ cs) w = after-holds (fedTo s c .state) (grown r c) cs (call-holds s r w c)
+after-holds : (s : State) (r cs : List Call) → Holds s r → Holds (after s cs) (runFrom isAdmitted sameId r cs)
+after-holds s r cs h = kept-by-all isAdmitted sameId (λ (t : State) (c : Call). fedTo t c .state) Holds call-holds s r cs h
 
 -- What is shown.
 module _ (i : ℕ) (s : State) (r : List Call) (k : Core i s r) where
@@ -549,36 +384,6 @@ module _ (i : ℕ) (s : State) (r : List Call) (k : Core i s r) where
 
   core-bytes : isWhole i r ≡ true → take (13 * counts i r) (s .memory) ≡ firstCopies (counts i r) r
   core-bytes w = copies (counts i r) (counted-few (dsmType i) (firstCopy 0 r)) (k .all (k .done-is ∙ w))
-
--- The run of a run is that run.
-run-more : (r xs : List Call) (c : Call) → runFrom r (xs ++ (c ∷ [])) ≡ grown (runFrom r xs) c
-run-more r [] c = refl
-run-more r (x ∷ xs) c = run-more (grown r x) xs c
-
-before-twice : (r : List Call) (c : Call) → before (before r c) c ≡ before r c
-before-twice r c = go (continues r c) refl
-  where
-    go : (b : Bool) → continues r c ≡ b → before (cond b r []) c ≡ cond b r []
-    go true e = rw e
-    go false e = refl
-
-run-before : (r : List Call) (c : Call) → run r ≡ r → run (before r c) ≡ before r c
-run-before r c e = go (continues r c)
-  where
-    go : (b : Bool) → run (cond b r []) ≡ cond b r []
-    go true = e
-    go false = refl
-
-run-grown : (r : List Call) (c : Call) → run r ≡ r → run (grown r c) ≡ grown r c
-run-grown r c e = go (isAdmitted c) refl
-  where
-    go : (b : Bool) → isAdmitted c ≡ b → run (cond b (before r c ++ (c ∷ [])) r) ≡ cond b (before r c ++ (c ∷ [])) r
-    go false h = e
-    go true h = run-more [] (before r c) c ∙ ap (λ (l : List Call). grown l c) (run-before r c e) ∙ rw (h, before-twice r c)
-
-run-from : (r cs : List Call) → run r ≡ r → run (runFrom r cs) ≡ runFrom r cs
-run-from r [] e = e
-run-from r (c ∷ cs) e = run-from (grown r c) cs (run-grown r c e)
 
 -- Two collectors that are at the same run.
 module _ (s : State) (r : List Call) (w : Holds s r) (c : Call) (e : isAdmitted c ≡ true) where
@@ -610,7 +415,7 @@ same-run s t r q c a b e h =
 like-new-at : (s : State) (r : List Call) → Holds s r → run r ≡ r → (c : Call) (o : List ℕ) → length o ≡ 208 → isAdmitted c ≡ true → Alike s (after (new o) (before r c)) c
 like-new-at s r w own c o l e =
     same-run s (after (new o) (before r c)) r (run (before r c)) c w (after-holds (new o) [] (before r c) (new-holds o l)) e
-    (sym (ap (λ (q : List Call). before q c) (run-before r c own) ∙ before-twice r c))
+    (sym (ap (λ (q : List Call). before q c) (run-before isAdmitted sameId r c own) ∙ before-twice isAdmitted sameId r c))
 
 once-at : (s : State) (r : List Call) → Holds s r → (c : Call) → isAdmitted c ≡ true → isWhole (idOf (c .header)) (before r c) ≡ true → (isWhole (idOf (c .header)) (grown r c) ≡ true) × (fedTo s c .answer ≡ nothing)
 once-at s r w c e h =
@@ -622,7 +427,7 @@ pub dsm-recovers : DsmRecovers
 dsm-recovers m l cs c =
     let w : Holds (after (new m) cs) (run cs) = after-holds (new m) [] cs (new-holds m l) in
     record {
-      like-new = like-new-at (after (new m) cs) (run cs) w (run-from [] cs refl) c;
+      like-new = like-new-at (after (new m) cs) (run cs) w (run-from isAdmitted sameId [] cs refl) c;
       exactly-when = λ e. fed-step (after (new m) cs) (run cs) w c e .answer;
       first-fed = λ e h. core-bytes (idOf (c .header)) (fedTo (after (new m) cs) c .state) (grown (run cs) c) (fed-step (after (new m) cs) (run cs) w c e .core) h;
       once = once-at (after (new m) cs) (run cs) w c;

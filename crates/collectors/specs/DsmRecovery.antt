@@ -9,6 +9,7 @@ use lib.ListN.{length, take}
 use lib.Dec.{eqb}
 use Rattle.layouts.specs.Answer.{refused, nothing, gives, shown}
 use Rattle.layouts.specs.DsmHeader.{dsmType}
+use Rattle.collectors.specs.Runs.{afterAll, runBefore, runWith, runOf}
 use Rattle.collectors.specs.Dsm.{State, new, Fed, idOf, blockOf, counted, feed, view}
 
 -- A call: any header byte, and a block of any length. One is admitted where its block has 13 bytes; nothing else can be refused after `new`, with 208 lent bytes.
@@ -24,27 +25,21 @@ fedTo s c = feed s (c .header) (c .block)
 
 -- the state after calls, the oldest first
 abbrev pub after : State → List Call → State
-after s [] = s
-after s (c ∷ cs) = after (fedTo s c .state) cs
+after s cs = afterAll (λ (t : State) (c : Call). fedTo t c .state) s cs
 
--- Runs: the admitted calls, cut where the DSM ID differs from the one before. `before r c` is what c's run had before c, where r is the run so far.
-abbrev pub continues : List Call → Call → Bool
-continues [] c = false
-continues (d ∷ ds) c = eqb (idOf (d .header)) (idOf (c .header))
+-- Runs are cut where the DSM ID differs from the one before. `before r c` is what c's run had before c, where r is the run so far.
+abbrev pub sameId : Call → Call → Bool
+sameId c d = eqb (idOf (c .header)) (idOf (d .header))
 
 abbrev pub before : List Call → Call → List Call
-before r c = cond (continues r c) r []
+before r c = runBefore isAdmitted sameId r c
 
 abbrev pub grown : List Call → Call → List Call
-grown r c = cond (isAdmitted c) (before r c ++ (c ∷ [])) r
-
-abbrev pub runFrom : List Call → List Call → List Call
-runFrom r [] = r
-runFrom r (c ∷ cs) = runFrom (grown r c) cs
+grown r c = runWith isAdmitted sameId r c
 
 -- the run at the end of the calls
 abbrev pub run : List Call → List Call
-run cs = runFrom [] cs
+run cs = runOf isAdmitted sameId cs
 
 -- Of a run: whether block n was fed, and its first copy.
 unfoldable pub fed : ℕ → List Call → Bool

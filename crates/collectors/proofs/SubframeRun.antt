@@ -1,19 +1,20 @@
 -- What one page does to a collector that is at its run: the counts are how many words the run's pages were taken for, and the bytes are theirs.
 -- Assumes nothing.
-use Prim.Native.Nat.{ℕ, zero, suc, _+_, _-_, _*_, _/_, _%_, _≤_, _<_}
+use Prim.Native.Nat.{ℕ, zero, suc, _+_, _-_, _*_, _≤_, _<_}
 use native.Mathlib.Omega.{arith}
 use native.Mathlib.Decide.{ℕ-discrete}
 use native.Mathlib.Nat.{add-zero}
-use mathlib.Core.Path.{_≡_, refl, sym, ap, _∙_, subst, subst⁻¹}
+use mathlib.Core.Path.{_≡_, refl, sym, ap, _∙_, subst}
 use mathlib.Core.List.{List, [], _∷_, _++_}
 use mathlib.Core.Bool.{Bool, true, false, cond, not, _&&_}
-use lib.ListN.{length, getD, set, take, drop, replicate, length-set, length-drop}
-use lib.Seq.{length-take-le, getD-take, getD-drop, ext-getD, getD-set-same, getD-set-other, take-add}
-use lib.Dec.{leb, ltb, eqb}
-use borrow.Author.Tests.{le-leb, lt-leb, eq-eqb, ne-eqb, eqb-true, eqb-false}
-use Rattle.layouts.specs.Answer.{Answer, nothing, gives}
+use lib.ListN.{length, getD, set, length-set}
+use lib.Seq.{getD-set-same, getD-set-other}
+use lib.Dec.{leb, eqb}
+use borrow.Author.Tests.{le-leb, lt-leb, eq-eqb, ne-eqb, eqb-true}
+use Rattle.layouts.specs.Answer.{nothing, gives}
 use Rattle.collectors.specs.Subframe.{State, Page, Fed, wordOf, small, put4, answerAt, used, offered}
-use Rattle.collectors.specs.SubframeRecovery.{hasWord, noPage, hkrootOf, mackOf, message}
+use Rattle.collectors.specs.SubframeRecovery.{hasWord, noPage}
+use Rattle.collectors.proofs.Basics.{and-true}
 use Rattle.collectors.proofs.Rising.{count, chosen, count-more, chosen-kept, chosen-new}
 
 -- how many words of a satellite a run has brought, and the page that brought word k
@@ -22,10 +23,6 @@ words n r = count (hasWord n) 0 r
 
 abbrev pub pageOf : ℕ → List Page → ℕ → Page
 pageOf n r k = chosen (hasWord n) noPage 0 r k
-
-and-true : (x y : Bool) → (x && y) ≡ true → (x ≡ true) × (y ≡ true)
-and-true true y h = (refl, h)
-and-true false y h = let z : _≡_ {A = ℕ} 0 1 = cc in absurd (omega arith)
 
 -- at most 15, since a word is at most 14
 words-few-from : (n : ℕ) (r : List Page) (m : ℕ) → m ≤ 15 → count (hasWord n) m r ≤ 15
