@@ -2,6 +2,7 @@ pub mod Basics
 pub mod Blocks
 pub mod DsmRecovery
 pub mod DsmRun
+pub mod Edges
 pub mod Pages
 pub mod Rising
 pub mod Runs

@@ -120,12 +120,16 @@ bytesFrom m start (suc many) = field m start 8 ∷ bytesFrom m (start + 8) many
 abbrev pub keyChecks : List ℕ → ℕ → ℕ → List ℕ → List Check
 keyChecks m k T out = mackChecks m k T ++ (1 when not (eqb (length out) k) ∷ [])
 
--- "The key starts at bit nt(T+16), which may be half a byte in, and is copied to K/8 lent bytes": the answer, and what the output then has
+-- "The key starts at bit nt(T+16), which may be half a byte in, .."
+abbrev pub keyStart : ℕ → ℕ → ℕ
+keyStart k T = nt k T * (T + 16)
+
+-- ".. and is copied to K/8 lent bytes": the answer, and what the output then has
 unfoldable pub keyCopied : List ℕ → ℕ → ℕ → List ℕ → Copied
 keyCopied m k T out =
     record {
       answer = answered (refusal (keyChecks m k T out)) (gives []);
-      bytes = cond (eqb (refusal (keyChecks m k T out)) 0) (bytesFrom m (nt k T * (T + 16)) k) out;
+      bytes = cond (eqb (refusal (keyChecks m k T out)) 0) (bytesFrom m (keyStart k T) k) out;
     }
 
 abbrev pub Key : List ℕ → ℕ → ℕ → List ℕ → Copy → List ℕ → Type 0
