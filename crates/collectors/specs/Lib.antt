@@ -4,3 +4,5 @@ pub mod Promises
 pub mod Recovery
 pub mod Subframe
 pub mod SubframePromises
+pub mod Trace
+pub mod TracePromises
