@@ -3,10 +3,12 @@ pub mod Blocks
 pub mod DsmRecovery
 pub mod DsmRun
 pub mod Edges
+pub mod Entries
 pub mod Pages
 pub mod Rising
 pub mod Runs
 pub mod SubframeRecovery
 pub mod SubframeRun
 pub mod SubframeUnique
+pub mod TraceUnique
 pub mod Unique

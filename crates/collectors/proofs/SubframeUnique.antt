@@ -19,14 +19,14 @@ use Rattle.collectors.specs.declared.subframe.WordAnswer.the-variants.{R
 use Rattle.collectors.specs.declared.subframe.WordTaken.{WordTaken}
 
 -- `back` undoes each `meaning`
-abbrev back-subframe : Answer → SubframeAnswer
+abbrev pub back-subframe : Answer → SubframeAnswer
 back-subframe (refused n) = Refused n
 back-subframe nothing = Nothing
 back-subframe (gives []) = Nothing
 back-subframe (gives (w ∷ [])) = Nothing
 back-subframe (gives (w ∷ t ∷ l)) = Complete w t
 
-undo-subframe : (r : SubframeAnswer) → back-subframe (meaning-subframe r) ≡ r
+pub undo-subframe : (r : SubframeAnswer) → back-subframe (meaning-subframe r) ≡ r
 undo-subframe (Refused n) = refl
 undo-subframe Nothing = refl
 undo-subframe (Complete w t) = refl
@@ -42,7 +42,7 @@ undo-word Unused = refl
 undo-word Used = refl
 
 -- the record is its state without the lent bytes
-abbrev back-state : State → CollectSubframe
+abbrev pub back-state : State → CollectSubframe
 back-state s = record { week = s .week; subframe = s .subframe; counts = s .counts }
 
 pub new-subframe : (r s : CollectSubframe) → NewSubframe r → NewSubframe s → r ≡ s

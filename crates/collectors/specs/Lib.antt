@@ -8,3 +8,5 @@ pub mod Runs
 pub mod Subframe
 pub mod SubframePromises
 pub mod SubframeRecovery
+pub mod Trace
+pub mod TracePromises

@@ -118,7 +118,12 @@ fn all_small(counts: [u8; 36]) -> bool
 }
 
 // The refusal number of the lent bytes, the record and the satellite; 0 for none.
-fn view_refuses(collector: CollectSubframe, hkroot: &[u8], mack: &[u8], satellite: u8) -> u8
+pub(crate) fn view_refuses(
+    collector: CollectSubframe,
+    hkroot: &[u8],
+    mack: &[u8],
+    satellite: u8,
+) -> u8
     ensures { λ r. ⌜ r ≡ refusalOf (viewChecks (state collector (now (hkroot .entry)) (now (mack .entry))) satellite) ⌝ }
 {
     if hkroot.len() != 540 {
@@ -195,20 +200,24 @@ fn change(collector: CollectSubframe, week: u16, subframe: u16) -> CollectSubfra
     collector
 }
 
-// A page's first byte goes to one place, the other four to the other.
-fn place(hkroot: &mut [u8], mack: &mut [u8], page: &[u8], h: usize, m: usize)
+// A page's first byte goes to one place, the other four to the other. All are read before any is written, so that the compiler can move the four as one number.
+pub(crate) fn place(hkroot: &mut [u8], mack: &mut [u8], page: &[u8], h: usize, m: usize)
     requires { ⌜ (h < length (now hkroot)) × (m + 3 < length (now mack)) × (length (now page) ≡ 5) ⌝ }
     ensures { λ r. ⌜ (now (hkroot .exit) ≡ set (now (hkroot .entry)) h (getD (now (page .entry)) 0 0)) × (now (mack .exit) ≡ put4 (now (mack .entry)) m (now (page .entry))) ⌝ }
 {
+    let a = page[1];
+    let b = page[2];
+    let c = page[3];
+    let d = page[4];
     hkroot[h] = page[0];
-    mack[m] = page[1];
-    mack[m + 1] = page[2];
-    mack[m + 2] = page[3];
-    mack[m + 3] = page[4];
+    mack[m] = a;
+    mack[m + 1] = b;
+    mack[m + 2] = c;
+    mack[m + 3] = d;
 }
 
 // The answer where a satellite's count has become `count`.
-fn answer_at(count: u8, week: u16, subframe: u16) -> SubframeAnswer
+pub(crate) fn answer_at(count: u8, week: u16, subframe: u16) -> SubframeAnswer
     requires { ⌜ subframe ≤ 20159 ⌝ }
     ensures { λ r. ⌜ meaning-subframe r ≡ answerAt count week subframe ⌝ }
 {
