@@ -3,3 +3,4 @@ pub mod Pages
 pub mod Recovery
 pub mod SubframeUnique
 pub mod Unique
+pub mod Stored

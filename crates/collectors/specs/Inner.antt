@@ -1,6 +1,9 @@
 -- What private functions of the collectors need and do. No promise of a public function cites this file.
 -- Assumes nothing.
-use Prim.Native.Nat.{ℕ, _+_, _≤_}
+use Prim.Native.Nat.{ℕ, _+_, _*_, _≤_}
+use mathlib.Core.Path.{_≡_}
+use lib.ListN.{length}
+use Rattle.collectors.specs.Store.{Storage}
 use Rattle.collectors.specs.declared.subframe.SubframeShown.{SubframeShown}
 use Rattle.collectors.specs.declared.subframe.SubframeShown.the-variants.{Shown, Nothing, Refused}
 
@@ -9,3 +12,13 @@ abbrev pub Inside : SubframeShown → ℕ → Type 0
 Inside (Shown first many) len = first + many ≤ len
 Inside Nothing len = Unit {0}
 Inside (Refused n) len = Unit {0}
+
+-- the lists of a store have the lengths of so many messages and times
+pub record Fits (messages times : ℕ) (o : Storage) : Type 0 where
+  pub timed-long : length (o .timed) ≡ times
+  pub weeks-long : length (o .weeks) ≡ times
+  pub tows-long : length (o .tows) ≡ times
+  pub counts-long : length (o .counts) ≡ times
+  pub satellites-long : length (o .satellites) ≡ messages * times
+  pub statuses-long : length (o .statuses) ≡ messages * times
+  pub few : messages * times ≤ 65535

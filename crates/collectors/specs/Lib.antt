@@ -4,3 +4,5 @@ pub mod Promises
 pub mod Recovery
 pub mod Subframe
 pub mod SubframePromises
+pub mod Store
+pub mod StorePromises
