@@ -90,41 +90,43 @@ pub record Call : Type 0 where
   pub asked : Asked
   pub status : ℕ
 
--- "12, 2, 3, 4": what is refused of the record, the satellite and the time
+-- What is refused of a satellite and a time, ..
+abbrev pub timeChecks : Asked → List Check
+timeChecks a = 2 when ltb (a .satellite) 1 ∷ 2 when ltb 36 (a .satellite) ∷ 3 when ltb 4095 (a .week) ∷ 4 when ltb 604799 (a .time) ∷ []
+
+-- .. after the record: 12, 2, 3, 4
 abbrev pub askChecks : ℕ → ℕ → Storage → Asked → List Check
-askChecks messages times o a =
-    12 when not (legal messages times o) ∷
-    2 when ltb (a .satellite) 1 ∷
-    2 when ltb 36 (a .satellite) ∷
-    3 when ltb 4095 (a .week) ∷
-    4 when ltb 604799 (a .time) ∷
-    []
+askChecks messages times o a = 12 when not (legal messages times o) ∷ timeChecks a
 
 -- "a message is stored at the current place's time and that place has 36"
-abbrev pub full : ℕ → Storage → Asked → Bool
-full messages o a = hasTime o (a .week) (a .time) (o .current) && eqb (getD (o .counts) (o .current) 0) messages
+abbrev pub full : ℕ → Storage → ℕ → ℕ → Bool
+full messages o week time = hasTime o week time (o .current) && eqb (getD (o .counts) (o .current) 0) messages
+
+-- "a status above 3 given to a store is 7"
+abbrev pub statusChecks : ℕ → Bool → List Check
+statusChecks status isFull = 7 when ltb 3 status ∷ 10 when isFull ∷ []
 
 -- the order 1, 12, 2, 3, 4, 7, then 10
 abbrev pub storeChecks : ℕ → ℕ → State → Call → List Check
 storeChecks messages times s c =
     1 when not (eqb (length (s .memory)) (60 * (messages * times))) ∷
     1 when not (eqb (length (c .message)) 60) ∷
-    askChecks messages times (s .storage) (c .asked) ++ (7 when ltb 3 (c .status) ∷ 10 when full messages (s .storage) (c .asked) ∷ [])
+    askChecks messages times (s .storage) (c .asked) ++ statusChecks (c .status) (full messages (s .storage) (c .asked .week) (c .asked .time))
 
 -- "12 places in a ring": the place after p
 unfoldable pub nextPlace : ℕ → ℕ → ℕ
 nextPlace times p = cond (eqb (p + 1) times) 0 (p + 1)
 
 -- "Storing at another time than the current place's moves to the next place and empties it; a current place without a time is just used."
-abbrev pub moves : Storage → Asked → Bool
-moves o a = getD (o .timed) (o .current) false && not (hasTime o (a .week) (a .time) (o .current))
+abbrev pub moves : Storage → ℕ → ℕ → Bool
+moves o week time = getD (o .timed) (o .current) false && not (hasTime o week time (o .current))
 
 -- where a message goes: the place, and how many messages are there before it
-unfoldable pub placeFor : ℕ → Storage → Asked → ℕ
-placeFor times o a = cond (moves o a) (nextPlace times (o .current)) (o .current)
+unfoldable pub placeFor : ℕ → Storage → ℕ → ℕ → ℕ
+placeFor times o week time = cond (moves o week time) (nextPlace times (o .current)) (o .current)
 
-unfoldable pub numberFor : Storage → Asked → ℕ
-numberFor o a = cond (moves o a) 0 (getD (o .counts) (o .current) 0)
+unfoldable pub numberFor : Storage → ℕ → ℕ → ℕ
+numberFor o week time = cond (moves o week time) 0 (getD (o .counts) (o .current) 0)
 
 -- "Messages append in order; the same satellite may appear twice."
 unfoldable pub entered : ℕ → Storage → ℕ → ℕ → Asked → ℕ → Storage
@@ -143,11 +145,17 @@ entered messages o p j a status =
 abbrev pub put : List ℕ → ℕ → List ℕ → List ℕ
 put memory i message = take (60 * i) memory ++ message ++ drop (60 * i + 60) memory
 
+abbrev pub placeOf : ℕ → State → Call → ℕ
+placeOf times s c = placeFor times (s .storage) (c .asked .week) (c .asked .time)
+
+abbrev pub numberOf : State → Call → ℕ
+numberOf s c = numberFor (s .storage) (c .asked .week) (c .asked .time)
+
 unfoldable pub stored : ℕ → ℕ → State → Call → State
 stored messages times s c =
     record {
-      storage = entered messages (s .storage) (placeFor times (s .storage) (c .asked)) (numberFor (s .storage) (c .asked)) (c .asked) (c .status);
-      memory = put (s .memory) (entry messages (placeFor times (s .storage) (c .asked)) (numberFor (s .storage) (c .asked))) (c .message);
+      storage = entered messages (s .storage) (placeOf times s c) (numberOf s c) (c .asked) (c .status);
+      memory = put (s .memory) (entry messages (placeOf times s c) (numberOf s c)) (c .message);
     }
 
 -- the state after a call, and the answer: stored or refused
@@ -164,15 +172,17 @@ store messages times s c =
 unfoldable pub reached : ℕ → Storage → ℕ → ℕ → ℕ
 reached times o week time = first (hasTime o week time) times 0
 
--- the number of the first message of a satellite in a place; the place's count where there is none
-unfoldable pub firstOf : ℕ → Storage → ℕ → ℕ → ℕ
-firstOf messages o p satellite = first (λ j. eqb (getD (o .satellites) (entry messages p j) 0) satellite) (getD (o .counts) p 0) 0
+-- "where its first message of that satellite lies, as the number of its first byte, with its status": of the messages from number `at` on, as many as the count says
+unfoldable pub firstOf : List ℕ → ℕ → ℕ → ℕ → ℕ
+firstOf satellites at count satellite = first (λ j. eqb (getD satellites (at + j) 0) satellite) count 0
 
--- "answers where its first message of that satellite lies, as the number of its first byte, with its status"
-unfoldable pub found : ℕ → Storage → ℕ → ℕ → Answer
-found messages o p satellite =
-    cond (ltb (firstOf messages o p satellite) (getD (o .counts) p 0))
-    (gives (60 * entry messages p (firstOf messages o p satellite) ∷ getD (o .statuses) (entry messages p (firstOf messages o p satellite)) 0 ∷ [])) nothing
+unfoldable pub foundAmong : List ℕ → List ℕ → ℕ → ℕ → ℕ → Answer
+foundAmong satellites statuses at count satellite =
+    cond (ltb (firstOf satellites at count satellite) count)
+    (gives (60 * (at + firstOf satellites at count satellite) ∷ getD statuses (at + firstOf satellites at count satellite) 0 ∷ [])) nothing
+
+abbrev pub found : ℕ → Storage → ℕ → ℕ → Answer
+found messages o p satellite = foundAmong (o .satellites) (o .statuses) (messages * p) (getD (o .counts) p 0) satellite
 
 -- "`get` looks only in the lowest-numbered place with that time"
 unfoldable pub get : ℕ → ℕ → Storage → Asked → Answer

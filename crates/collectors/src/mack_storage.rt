@@ -6,9 +6,9 @@ ghost use Prim.Native.Nat.{ℕ, _+_, _*_, _≤_, _<_};
 ghost use lib.ListN.{length, getD};
 ghost use lib.Dec.{eqb};
 ghost use Rattle.layouts.specs.Answer.{refusal as refusalOf};
-ghost use Rattle.collectors.specs.Store.{legalEntry, legalTime, legalEntries, legal as legalOf, isTime, nextPlace, first as firstNumber};
+ghost use Rattle.collectors.specs.Store.{legalEntry, legalTime, legalEntries, legal as legalOf, isTime, timeChecks, askChecks, full, statusChecks, storeChecks, nextPlace, placeFor, numberFor, entered, put, first as firstNumber, foundAmong};
 ghost use Rattle.collectors.specs.Inner.{Fits};
-ghost use Rattle.collectors.specs.StorePromises.{NewStorage};
+ghost use Rattle.collectors.specs.StorePromises.{storageOf, state, meaning-found, NewStorage, StoreMack, GetMack};
 
 // What each place and each message of it has; the bytes of the messages are lent by the caller.
 pub struct MackStorage {
@@ -190,4 +190,261 @@ fn first_of(satellites: &[u8], at: usize, many: usize, satellite: u8) -> usize
         j += 1;
     }
     j
+}
+
+// The refusal number of a satellite and a time; 0 for none.
+fn asked_refuses(satellite: u8, week: u16, time: u32) -> u8
+    ensures { λ r. ⌜ r ≡ refusalOf (timeChecks (record { satellite = satellite; week = week; time = time })) ⌝ }
+{
+    if satellite < 1 {
+        return 2;
+    }
+    if 36 < satellite {
+        return 2;
+    }
+    if 4095 < week {
+        return 3;
+    }
+    if 604799 < time {
+        return 4;
+    }
+    0
+}
+
+// The refusal number of the record, a satellite and a time; 0 for none.
+fn ask_refuses(storage: MackStorage, satellite: u8, week: u16, time: u32) -> u8
+    ensures { λ r. ⌜ r ≡ refusalOf (askChecks 36 12 (storageOf storage) (record { satellite = satellite; week = week; time = time })) ⌝ }
+{
+    let current = storage.current as usize;
+    if !legal(
+        current,
+        &storage.timed,
+        &storage.weeks,
+        &storage.tows,
+        &storage.counts,
+        &storage.satellites,
+        &storage.statuses,
+        36,
+        12,
+    ) {
+        return 12;
+    }
+    asked_refuses(satellite, week, time)
+}
+
+// The first message of the satellite among `many` from number `at` on.
+fn find<'a>(
+    satellites: &'a [u8],
+    statuses: &'a [u8],
+    at: usize,
+    many: usize,
+    satellite: u8,
+) -> MackFound
+    requires { ⌜ (at + many ≤ length (now satellites)) × (at + many ≤ length (now statuses)) × (at + many ≤ 65535) ⌝ }
+    ensures { λ r. ⌜ meaning-found r ≡ foundAmong (now (satellites .entry)) (now (statuses .entry)) at many satellite ⌝ }
+{
+    let j = first_of(satellites, at, many, satellite);
+    if many <= j {
+        return MackFound::Nothing;
+    }
+    let i = at + j;
+    MackFound::At {
+        first: 60 * i,
+        status: statuses[i],
+    }
+}
+
+// Where the first message of the satellite at that time lies, with its status. Refuses 12 for the record, 2, 3, 4 for satellite, week and time.
+pub fn get(storage: MackStorage, satellite: u8, week: u16, time: u32) -> MackFound
+    ensures { λ r. ⌜ GetMack storage (record { satellite = satellite; week = week; time = time }) r ⌝ }
+{
+    let refusal = ask_refuses(storage, satellite, week, time);
+    if refusal != 0 {
+        return MackFound::Refused(refusal);
+    }
+    let place = lowest(
+        &storage.timed,
+        &storage.weeks,
+        &storage.tows,
+        12,
+        week,
+        time,
+    );
+    if 12 <= place {
+        return MackFound::Nothing;
+    }
+    let many = storage.counts[place] as usize;
+    find(
+        &storage.satellites,
+        &storage.statuses,
+        36 * place,
+        many,
+        satellite,
+    )
+}
+
+// The refusal number of what is stored, after those of the record, satellite and time; 0 for none.
+fn status_refuses(status: u8, same: bool, count: usize, messages: usize) -> u8
+    ensures { λ r. ⌜ r ≡ refusalOf (statusChecks status (same && eqb count messages)) ⌝ }
+{
+    if 3 < status {
+        return 7;
+    }
+    if same {
+        if count == messages {
+            return 10;
+        }
+    }
+    0
+}
+
+// Where a message goes.
+struct Spot {
+    place: usize,
+    number: usize,
+}
+
+// A message of another time than the current place's goes to the next place, which is emptied; one of its own time, or at a place without a time, is appended.
+fn spot_for(times: usize, current: usize, timed: bool, same: bool, count: usize) -> Spot
+    requires { ⌜ current < times ⌝ }
+    ensures { λ r. ⌜ (r .place ≡ cond (timed && not same) (nextPlace times current) current) × (r .number ≡ cond (timed && not same) 0 count) ⌝ }
+{
+    if !timed {
+        return Spot {
+            place: current,
+            number: count,
+        };
+    }
+    if same {
+        return Spot {
+            place: current,
+            number: count,
+        };
+    }
+    Spot {
+        place: next_place(times, current),
+        number: 0,
+    }
+}
+
+// Message `i` goes to its place in the lent bytes.
+fn copy_message(memory: &mut [u8], i: usize, message: &[u8])
+    requires { ⌜ (60 * i + 60 ≤ length (now memory)) × (length (now message) ≡ 60) ⌝ }
+    ensures { λ r. ⌜ now (memory .exit) ≡ put (now (memory .entry)) i (now (message .entry)) ⌝ }
+{
+    let at = 60 * i;
+    let mut k = 0;
+    while k < 60 {
+        memory[at + k] = message[k];
+        k += 1;
+    }
+}
+
+// The numbers of the current place say where a message goes.
+fn next_spot(storage: MackStorage, week: u16, time: u32) -> Spot
+    requires { ⌜ storage .current < 12 ⌝ }
+    ensures { λ r. ⌜ (r .place ≡ placeFor 12 (storageOf storage) week time) × (r .number ≡ numberFor (storageOf storage) week time) ⌝ }
+{
+    let p = storage.current as usize;
+    let timed = storage.timed[p];
+    let same = has_time(timed, storage.weeks[p], storage.tows[p], week, time);
+    let count = storage.counts[p] as usize;
+    spot_for(12, p, timed, same, count)
+}
+
+// The refusal number of a status, then of a full current place; 0 for none.
+fn place_refuses(storage: MackStorage, week: u16, time: u32, status: u8) -> u8
+    requires { ⌜ storage .current < 12 ⌝ }
+    ensures { λ r. ⌜ r ≡ refusalOf (statusChecks status (full 36 (storageOf storage) week time)) ⌝ }
+{
+    let p = storage.current as usize;
+    let same = has_time(
+        storage.timed[p],
+        storage.weeks[p],
+        storage.tows[p],
+        week,
+        time,
+    );
+    let count = storage.counts[p] as usize;
+    status_refuses(status, same, count, 36)
+}
+
+// The refusal number of a message; 0 for none.
+fn refuses(
+    storage: MackStorage,
+    memory: &[u8],
+    message: &[u8],
+    satellite: u8,
+    week: u16,
+    time: u32,
+    status: u8,
+) -> u8
+    ensures { λ r. ⌜ r ≡ refusalOf (storeChecks 36 12 (state storage (now (memory .entry))) (record { message = now (message .entry); asked = record { satellite = satellite; week = week; time = time }; status = status })) ⌝ }
+{
+    if memory.len() != 25920 {
+        return 1;
+    }
+    if message.len() != 60 {
+        return 1;
+    }
+    let refusal = ask_refuses(storage, satellite, week, time);
+    if refusal != 0 {
+        return refusal;
+    }
+    place_refuses(storage, week, time, status)
+}
+
+// The record with one message more: number `number` of that place, which has that time from now on.
+fn enter(
+    storage: MackStorage,
+    place: usize,
+    number: usize,
+    satellite: u8,
+    week: u16,
+    time: u32,
+    status: u8,
+) -> MackStorage
+    requires { ⌜ (place < 12) × (number < 36) ⌝ }
+    ensures { λ r. ⌜ storageOf r ≡ entered 36 (storageOf storage) place number (record { satellite = satellite; week = week; time = time }) status ⌝ }
+{
+    let mut next = storage;
+    let i = 36 * place + number;
+    next.current = place as u8;
+    next.timed[place] = true;
+    next.weeks[place] = week;
+    next.tows[place] = time;
+    next.counts[place] = (number + 1) as u8;
+    next.satellites[i] = satellite;
+    next.statuses[i] = status;
+    next
+}
+
+// Stores a message. Refuses 1 for lent bytes other than 25,920 or a message other than 60, 12 for the record, 2, 3, 4 for satellite, week and time, 7 for a status above 3, then 10 for a full place.
+pub fn store(
+    storage: MackStorage,
+    memory: &mut [u8],
+    message: &[u8],
+    satellite: u8,
+    week: u16,
+    time: u32,
+    status: u8,
+) -> MackStored
+    ensures { λ r. ⌜ StoreMack storage (now (memory .entry)) (record { message = now (message .entry); asked = record { satellite = satellite; week = week; time = time }; status = status }) r (now (memory .exit)) ⌝ }
+{
+    let refusal = refuses(storage, memory, message, satellite, week, time, status);
+    if refusal != 0 {
+        return MackStored {
+            storage,
+            answer: StoreAnswer::Refused(refusal),
+        };
+    }
+    let spot = next_spot(storage, week, time);
+    let place = spot.place;
+    let number = spot.number;
+    copy_message(memory, 36 * place + number, message);
+    let next = enter(storage, place, number, satellite, week, time, status);
+    MackStored {
+        storage: next,
+        answer: StoreAnswer::Stored,
+    }
 }
