@@ -4,3 +4,7 @@ pub mod Recovery
 pub mod SubframeUnique
 pub mod Unique
 pub mod Stored
+pub mod StoreUnique
+pub mod Bytes
+pub mod StoreTwice
+pub mod StoreKept

@@ -151,10 +151,10 @@ time-count messages timed week tow count e g = go (leb count messages) refl (sym
     go true h q = leb-true count messages h
     go false h q = let z : _≡_ {A = ℕ} 0 1 = cc in absurd (omega arith)
 
-abbrev timeAt : ℕ → Storage → ℕ → Bool
+abbrev pub timeAt : ℕ → Storage → ℕ → Bool
 timeAt messages o p = legalTime messages (getD (o .timed) p false) (getD (o .weeks) p 0) (getD (o .tows) p 0) (getD (o .counts) p 0)
 
-abbrev entriesAt : ℕ → Storage → ℕ → Bool
+abbrev pub entriesAt : ℕ → Storage → ℕ → Bool
 entriesAt messages o p = legalEntries (o .satellites) (o .statuses) (messages * p) (getD (o .counts) p 0)
 
 module _ (messages times : ℕ) (o : Storage) where
@@ -208,11 +208,11 @@ module _ (timed : List Bool) (weeks tows : List ℕ) (week time p n : ℕ) (e : 
   time-nowhere h g = first-none (timeIs timed weeks tows week time) p n h g e
 
 -- What is known of a legal record.
-and-left : (a b : Bool) → (a && b) ≡ true → a ≡ true
+pub and-left : (a b : Bool) → (a && b) ≡ true → a ≡ true
 and-left true b e = refl
 and-left false b e = e
 
-and-right : (a b : Bool) → (a && b) ≡ true → b ≡ true
+pub and-right : (a b : Bool) → (a && b) ≡ true → b ≡ true
 and-right true b e = e
 and-right false b e = let z : _≡_ {A = ℕ} 0 1 = cc in absurd (omega arith)
 

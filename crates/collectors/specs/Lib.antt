@@ -6,3 +6,4 @@ pub mod Subframe
 pub mod SubframePromises
 pub mod Store
 pub mod StorePromises
+pub mod StoreKeeps
