@@ -4,15 +4,18 @@ use Prim.Native.Nat.{ℕ, zero, suc, _+_, _-_, _*_, _≤_, _<_}
 use native.Mathlib.Nat.{zero-add, suc-add, mul-suc, mul-le-mul-left}
 use native.Mathlib.Numerals.{add-one}
 use native.Mathlib.Omega.{arith}
-use mathlib.Core.Path.{_≡_, refl, sym, ap, _∙_}
+use mathlib.Core.Path.{_≡_, refl, sym, ap, _∙_, subst}
 use mathlib.Core.List.{List, [], _∷_, _++_}
 use mathlib.Core.Bool.{Bool, true, false, cond, not, _&&_}
 use lib.ListN.{length, getD}
 use lib.Dec.{leb, ltb, eqb}
 use borrow.Author.Tests.{le-leb, lt-leb, le-ltb, lt-ltb, eq-eqb, ne-eqb, eqb-true, eqb-false, leb-true, ltb-true, ltb-false, not-true, not-false}
 use Rattle.layouts.specs.Answer.{Answer, refused, nothing, gives, refusal}
+use Rattle.collectors.specs.declared.mack_storage.Admitted.{Admitted}
+use Rattle.collectors.specs.declared.mack_storage.Admitted.the-variants.{Refused as NotAdmitted, At}
+use Rattle.collectors.specs.Inner.{Admits}
 use Rattle.layouts.proofs.Answers.{none-fails, stopped, went-on, refused-with, given-with}
-use Rattle.collectors.specs.Store.{Storage, State, Asked, Call, Outcome, all, first, entry, legalEntry, legalTime, legalEntries, legalPlace, legal, isTime, hasTime, timeChecks, askChecks, full, statusChecks, storeChecks, nextPlace, moves, placeFor, numberFor, placeOf, numberOf, entered, put, stored, store, reached, firstOf, foundAmong, found, get}
+use Rattle.collectors.specs.Store.{Storage, State, Asked, Call, Outcome, all, first, entry, legalEntry, legalTime, legalEntries, legalPlace, legal, isTime, hasTime, timeChecks, askChecks, full, statusChecks, entryChecks, storeChecks, nextPlace, moves, placeFor, numberFor, placeOf, numberOf, entered, put, stored, store, reached, firstOf, foundAmong, found, get}
 
 -- A test that holds of every number below n: the loop's ways.
 module _ (test : ℕ → Bool) where
@@ -313,20 +316,20 @@ module _ (messages times : ℕ) (s : State) (c : Call) where
     unfolding refusal
     other-message ne = rw (eq-eqb (length (s .memory)) (60 * (messages * times)) l, ne-eqb (length (c .message)) 60 ne)
 
-    module _ (k : length (c .message) ≡ 60) {q : ℕ} (e : q ≡ refusal (askChecks messages times (s .storage) (c .asked))) where
-      behind : {r : ℕ} → r ≡ refusal (askChecks messages times (s .storage) (c .asked) ++ statusChecks (c .status) (full messages (s .storage) (c .asked .week) (c .asked .time))) → r ≡ refusal (storeChecks messages times s c)
+    module _ (k : length (c .message) ≡ 60) where
+      pub well-lent : {r : ℕ} → r ≡ refusal (entryChecks messages times (s .storage) (c .asked) (c .status)) → r ≡ refusal (storeChecks messages times s c)
       unfolding refusal
-      behind h = rw (eq-eqb (length (s .memory)) (60 * (messages * times)) l, eq-eqb (length (c .message)) 60 k) h
+      well-lent h = rw (eq-eqb (length (s .memory)) (60 * (messages * times)) l, eq-eqb (length (c .message)) 60 k) h
 
-      pub not-asked : (q ≡ 0 → ⊥) → q ≡ refusal (storeChecks messages times s c)
-      not-asked ne = behind (stopped (askChecks messages times (s .storage) (c .asked)) (statusChecks (c .status) (full messages (s .storage) (c .asked .week) (c .asked .time))) e ne)
+module _ (messages times : ℕ) (o : Storage) (a : Asked) (status : ℕ) {q : ℕ} (e : q ≡ refusal (askChecks messages times o a)) where
+  pub not-asked : (q ≡ 0 → ⊥) → q ≡ refusal (entryChecks messages times o a status)
+  not-asked ne = stopped (askChecks messages times o a) (statusChecks status (full messages o (a .week) (a .time))) e ne
 
-      pub well-asked : q ≡ 0 → {r : ℕ} → r ≡ refusal (statusChecks (c .status) (full messages (s .storage) (c .asked .week) (c .asked .time))) → r ≡ refusal (storeChecks messages times s c)
-      well-asked z g = behind (went-on (askChecks messages times (s .storage) (c .asked)) (statusChecks (c .status) (full messages (s .storage) (c .asked .week) (c .asked .time))) tt e z g)
-
-pub place-refused : (messages : ℕ) (o : Storage) (week time status : ℕ) {same : Bool} {r : ℕ} → same ≡ hasTime o week time (o .current)
-    → r ≡ refusal (statusChecks status (same && eqb (getD (o .counts) (o .current) 0) messages)) → r ≡ refusal (statusChecks status (full messages o week time))
-place-refused messages o week time status h g = g ∙ ap (λ (x : Bool). refusal (statusChecks status (x && eqb (getD (o .counts) (o .current) 0) messages))) h
+  pub well-asked : q ≡ 0 → {same : Bool} {r : ℕ} → same ≡ hasTime o (a .week) (a .time) (o .current)
+      → r ≡ refusal (statusChecks status (same && eqb (getD (o .counts) (o .current) 0) messages)) → r ≡ refusal (entryChecks messages times o a status)
+  well-asked z h g =
+      went-on (askChecks messages times o a) (statusChecks status (full messages o (a .week) (a .time))) tt e z
+      (g ∙ ap (λ (x : Bool). refusal (statusChecks status (x && eqb (getD (o .counts) (o .current) 0) messages))) h)
 
 -- Where a message goes.
 module _ (times current : ℕ) (timed same : Bool) (count : ℕ) where
@@ -419,6 +422,31 @@ pub stored-is : (messages times : ℕ) (s : State) (c : Call) {p j : ℕ} {o : S
     → o ≡ entered messages (s .storage) p j (c .asked) (c .status) → m ≡ put (s .memory) (entry messages p j) (c .message) → _≡_ {A = State} (record { storage = o; memory = m }) (stored messages times s c)
 unfolding stored
 stored-is messages times s c ep ej eo em = rw (eo, em, ep, ej)
+
+-- What is told of where a message goes, the lent bytes and the message being as long as they should.
+module _ (messages times : ℕ) (s : State) (c : Call) (x : Admitted) (e : Admits messages times (s .storage) (c .asked) (c .status) x) (l : length (s .memory) ≡ 60 * (messages * times)) (k : length (c .message) ≡ 60) where
+  pub told-refused : {n : ℕ} → x ≡ NotAdmitted n → _≡_ {A = Outcome} (record { state = s; answer = refused n }) (store messages times s c)
+  told-refused g =
+      let f = subst (Admits messages times (s .storage) (c .asked) (c .status)) g e in
+      store-refused messages times s c (well-lent messages times s c l k (f .0)) (f .1)
+
+  module _ {p j : ℕ} (g : x ≡ At p j) where
+    pub told-none : 0 ≡ refusal (storeChecks messages times s c)
+    told-none = let f = subst (Admits messages times (s .storage) (c .asked) (c .status)) g e in well-lent messages times s c l k (sym (f .0))
+
+    pub told-place : p ≡ placeOf times s c
+    told-place = let f = subst (Admits messages times (s .storage) (c .asked) (c .status)) g e in f .1
+
+    pub told-number : j ≡ numberOf s c
+    told-number = let f = subst (Admits messages times (s .storage) (c .asked) (c .status)) g e in f .2
+
+    pub told-below : 0 < messages → (p < times) × (j < messages)
+    told-below pos = let f = fine messages times s c pos told-none refl in (omega (arith, f .place-in, told-place), omega (arith, f .number-in, told-number))
+
+    pub told-stored : {o : Storage} {m : List ℕ} → o ≡ entered messages (s .storage) p j (c .asked) (c .status) → m ≡ put (s .memory) (entry messages p j) (c .message)
+        → _≡_ {A = Outcome} (record { state = record { storage = o; memory = m }; answer = gives [] }) (store messages times s c)
+    told-stored eo em =
+        ap (λ (t : State). record { state = t; answer = gives [] }) (stored-is messages times s c told-place told-number eo em) ∙ store-stored messages times s c told-none refl
 
 -- Finding.
 module _ (satellites statuses : List ℕ) (at count satellite : ℕ) {j : ℕ} (e : j ≡ first (sentBy satellites at satellite) count 0) where

@@ -3,9 +3,12 @@
 use Prim.Native.Nat.{ℕ, _+_, _*_, _≤_}
 use mathlib.Core.Path.{_≡_}
 use lib.ListN.{length}
-use Rattle.collectors.specs.Store.{Storage}
+use Rattle.collectors.specs.Store.{Storage, Asked, entryChecks, placeFor, numberFor}
+use Rattle.layouts.specs.Answer.{refusal}
 use Rattle.collectors.specs.declared.subframe.SubframeShown.{SubframeShown}
 use Rattle.collectors.specs.declared.subframe.SubframeShown.the-variants.{Shown, Nothing, Refused}
+use Rattle.collectors.specs.declared.mack_storage.Admitted.{Admitted}
+use Rattle.collectors.specs.declared.mack_storage.Admitted.the-variants.{Refused as NotAdmitted, At}
 
 -- what is shown lies within that many bytes
 abbrev pub Inside : SubframeShown → ℕ → Type 0
@@ -22,3 +25,9 @@ pub record Fits (messages times : ℕ) (o : Storage) : Type 0 where
   pub satellites-long : length (o .satellites) ≡ messages * times
   pub statuses-long : length (o .statuses) ≡ messages * times
   pub few : messages * times ≤ 65535
+
+-- where a message goes, or why not
+abbrev pub Admits : ℕ → ℕ → Storage → Asked → ℕ → Admitted → Type 0
+Admits messages times o a status (NotAdmitted n) = (n ≡ refusal (entryChecks messages times o a status)) × (n ≡ 0 → ⊥)
+Admits messages times o a status (At p j) =
+    (refusal (entryChecks messages times o a status) ≡ 0) × (p ≡ placeFor times o (a .week) (a .time)) × (j ≡ numberFor o (a .week) (a .time))

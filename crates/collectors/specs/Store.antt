@@ -106,12 +106,14 @@ full messages o week time = hasTime o week time (o .current) && eqb (getD (o .co
 abbrev pub statusChecks : ℕ → Bool → List Check
 statusChecks status isFull = 7 when ltb 3 status ∷ 10 when isFull ∷ []
 
--- the order 1, 12, 2, 3, 4, 7, then 10
+-- 12, 2, 3, 4, 7, then 10 ..
+abbrev pub entryChecks : ℕ → ℕ → Storage → Asked → ℕ → List Check
+entryChecks messages times o a status = askChecks messages times o a ++ statusChecks status (full messages o (a .week) (a .time))
+
+-- .. after the lent bytes and the message: 1
 abbrev pub storeChecks : ℕ → ℕ → State → Call → List Check
 storeChecks messages times s c =
-    1 when not (eqb (length (s .memory)) (60 * (messages * times))) ∷
-    1 when not (eqb (length (c .message)) 60) ∷
-    askChecks messages times (s .storage) (c .asked) ++ statusChecks (c .status) (full messages (s .storage) (c .asked .week) (c .asked .time))
+    1 when not (eqb (length (s .memory)) (60 * (messages * times))) ∷ 1 when not (eqb (length (c .message)) 60) ∷ entryChecks messages times (s .storage) (c .asked) (c .status)
 
 -- "12 places in a ring": the place after p
 unfoldable pub nextPlace : ℕ → ℕ → ℕ

@@ -6,9 +6,9 @@ ghost use Prim.Native.Nat.{ℕ, _+_, _*_, _≤_, _<_};
 ghost use lib.ListN.{length, getD};
 ghost use lib.Dec.{eqb};
 ghost use Rattle.layouts.specs.Answer.{refusal as refusalOf};
-ghost use Rattle.collectors.specs.Store.{legalEntry, legalTime, legalEntries, legal as legalOf, isTime, timeChecks, askChecks, full, statusChecks, storeChecks, nextPlace, placeFor, numberFor, entered, put, first as firstNumber, foundAmong};
-ghost use Rattle.collectors.specs.Inner.{Fits};
-ghost use Rattle.collectors.specs.StorePromises.{storageOf, state, meaning-found, NewStorage, StoreMack, GetMack};
+ghost use Rattle.collectors.specs.Store.{legalEntry, legalTime, legalEntries, legal as legalOf, isTime, timeChecks, askChecks, statusChecks, nextPlace, entered, put, first as firstNumber, foundAmong, get as getOf};
+ghost use Rattle.collectors.specs.Inner.{Fits, Admits};
+ghost use Rattle.collectors.specs.StorePromises.{storageOf, meaning-found, NewStorage, StoreMack, GetMack};
 
 // What each place and each message of it has; the bytes of the messages are lent by the caller.
 pub struct MackStorage {
@@ -212,20 +212,33 @@ fn asked_refuses(satellite: u8, week: u16, time: u32) -> u8
 }
 
 // The refusal number of the record, a satellite and a time; 0 for none.
-fn ask_refuses(storage: MackStorage, satellite: u8, week: u16, time: u32) -> u8
-    ensures { λ r. ⌜ r ≡ refusalOf (askChecks 36 12 (storageOf storage) (record { satellite = satellite; week = week; time = time })) ⌝ }
+fn ask_refuses<'a>(
+    current: usize,
+    timed: &'a [bool],
+    weeks: &'a [u16],
+    tows: &'a [u32],
+    counts: &'a [u8],
+    satellites: &'a [u8],
+    statuses: &'a [u8],
+    messages: usize,
+    times: usize,
+    satellite: u8,
+    week: u16,
+    time: u32,
+) -> u8
+    requires { ⌜ Fits messages times (record { current = current; timed = now timed; weeks = now weeks; tows = now tows; counts = now counts; satellites = now satellites; statuses = now statuses }) ⌝ }
+    ensures { λ r. ⌜ r ≡ refusalOf (askChecks messages times (record { current = current; timed = now (timed .entry); weeks = now (weeks .entry); tows = now (tows .entry); counts = now (counts .entry); satellites = now (satellites .entry); statuses = now (statuses .entry) }) (record { satellite = satellite; week = week; time = time })) ⌝ }
 {
-    let current = storage.current as usize;
     if !legal(
         current,
-        &storage.timed,
-        &storage.weeks,
-        &storage.tows,
-        &storage.counts,
-        &storage.satellites,
-        &storage.statuses,
-        36,
-        12,
+        timed,
+        weeks,
+        tows,
+        counts,
+        satellites,
+        statuses,
+        messages,
+        times,
     ) {
         return 12;
     }
@@ -254,33 +267,47 @@ fn find<'a>(
     }
 }
 
-// Where the first message of the satellite at that time lies, with its status. Refuses 12 for the record, 2, 3, 4 for satellite, week and time.
-pub fn get(storage: MackStorage, satellite: u8, week: u16, time: u32) -> MackFound
-    ensures { λ r. ⌜ GetMack storage (record { satellite = satellite; week = week; time = time }) r ⌝ }
+// Where the first message of the satellite at that time lies, in a store of so many messages and times.
+fn search<'a>(
+    current: usize,
+    timed: &'a [bool],
+    weeks: &'a [u16],
+    tows: &'a [u32],
+    counts: &'a [u8],
+    satellites: &'a [u8],
+    statuses: &'a [u8],
+    messages: usize,
+    times: usize,
+    satellite: u8,
+    week: u16,
+    time: u32,
+) -> MackFound
+    requires { ⌜ Fits messages times (record { current = current; timed = now timed; weeks = now weeks; tows = now tows; counts = now counts; satellites = now satellites; statuses = now statuses }) ⌝ }
+    ensures { λ r. ⌜ meaning-found r ≡ getOf messages times (record { current = current; timed = now (timed .entry); weeks = now (weeks .entry); tows = now (tows .entry); counts = now (counts .entry); satellites = now (satellites .entry); statuses = now (statuses .entry) }) (record { satellite = satellite; week = week; time = time }) ⌝ }
 {
-    let refusal = ask_refuses(storage, satellite, week, time);
-    if refusal != 0 {
-        return MackFound::Refused(refusal);
-    }
-    let place = lowest(
-        &storage.timed,
-        &storage.weeks,
-        &storage.tows,
-        12,
+    let refusal = ask_refuses(
+        current,
+        timed,
+        weeks,
+        tows,
+        counts,
+        satellites,
+        statuses,
+        messages,
+        times,
+        satellite,
         week,
         time,
     );
-    if 12 <= place {
+    if refusal != 0 {
+        return MackFound::Refused(refusal);
+    }
+    let place = lowest(timed, weeks, tows, times, week, time);
+    if times <= place {
         return MackFound::Nothing;
     }
-    let many = storage.counts[place] as usize;
-    find(
-        &storage.satellites,
-        &storage.statuses,
-        36 * place,
-        many,
-        satellite,
-    )
+    let many = counts[place] as usize;
+    find(satellites, statuses, messages * place, many, satellite)
 }
 
 // The refusal number of what is stored, after those of the record, satellite and time; 0 for none.
@@ -340,58 +367,60 @@ fn copy_message(memory: &mut [u8], i: usize, message: &[u8])
     }
 }
 
-// The numbers of the current place say where a message goes.
-fn next_spot(storage: MackStorage, week: u16, time: u32) -> Spot
-    requires { ⌜ storage .current < 12 ⌝ }
-    ensures { λ r. ⌜ (r .place ≡ placeFor 12 (storageOf storage) week time) × (r .number ≡ numberFor (storageOf storage) week time) ⌝ }
-{
-    let p = storage.current as usize;
-    let timed = storage.timed[p];
-    let same = has_time(timed, storage.weeks[p], storage.tows[p], week, time);
-    let count = storage.counts[p] as usize;
-    spot_for(12, p, timed, same, count)
+// Where a message goes, or the refusal number.
+enum Admitted {
+    Refused(u8),
+    At { place: usize, number: usize },
 }
 
-// The refusal number of a status, then of a full current place; 0 for none.
-fn place_refuses(storage: MackStorage, week: u16, time: u32, status: u8) -> u8
-    requires { ⌜ storage .current < 12 ⌝ }
-    ensures { λ r. ⌜ r ≡ refusalOf (statusChecks status (full 36 (storageOf storage) week time)) ⌝ }
-{
-    let p = storage.current as usize;
-    let same = has_time(
-        storage.timed[p],
-        storage.weeks[p],
-        storage.tows[p],
-        week,
-        time,
-    );
-    let count = storage.counts[p] as usize;
-    status_refuses(status, same, count, 36)
-}
-
-// The refusal number of a message; 0 for none.
-fn refuses(
-    storage: MackStorage,
-    memory: &[u8],
-    message: &[u8],
+// Where a message of that satellite, time and status goes, in a store of so many messages and times.
+fn admit<'a>(
+    current: usize,
+    timed: &'a [bool],
+    weeks: &'a [u16],
+    tows: &'a [u32],
+    counts: &'a [u8],
+    satellites: &'a [u8],
+    statuses: &'a [u8],
+    messages: usize,
+    times: usize,
     satellite: u8,
     week: u16,
     time: u32,
     status: u8,
-) -> u8
-    ensures { λ r. ⌜ r ≡ refusalOf (storeChecks 36 12 (state storage (now (memory .entry))) (record { message = now (message .entry); asked = record { satellite = satellite; week = week; time = time }; status = status })) ⌝ }
+) -> Admitted
+    requires { ⌜ Fits messages times (record { current = current; timed = now timed; weeks = now weeks; tows = now tows; counts = now counts; satellites = now satellites; statuses = now statuses }) ⌝ }
+    ensures { λ r. ⌜ Admits messages times (record { current = current; timed = now (timed .entry); weeks = now (weeks .entry); tows = now (tows .entry); counts = now (counts .entry); satellites = now (satellites .entry); statuses = now (statuses .entry) }) (record { satellite = satellite; week = week; time = time }) status r ⌝ }
 {
-    if memory.len() != 25920 {
-        return 1;
-    }
-    if message.len() != 60 {
-        return 1;
-    }
-    let refusal = ask_refuses(storage, satellite, week, time);
+    let refusal = ask_refuses(
+        current,
+        timed,
+        weeks,
+        tows,
+        counts,
+        satellites,
+        statuses,
+        messages,
+        times,
+        satellite,
+        week,
+        time,
+    );
     if refusal != 0 {
-        return refusal;
+        return Admitted::Refused(refusal);
     }
-    place_refuses(storage, week, time, status)
+    let has = timed[current];
+    let same = has_time(has, weeks[current], tows[current], week, time);
+    let count = counts[current] as usize;
+    let full = status_refuses(status, same, count, messages);
+    if full != 0 {
+        return Admitted::Refused(full);
+    }
+    let spot = spot_for(times, current, has, same, count);
+    Admitted::At {
+        place: spot.place,
+        number: spot.number,
+    }
 }
 
 // The record with one message more: number `number` of that place, which has that time from now on.
@@ -419,6 +448,28 @@ fn enter(
     next
 }
 
+// Where a message of that satellite, time and status goes, by this record.
+fn goes_to(storage: MackStorage, satellite: u8, week: u16, time: u32, status: u8) -> Admitted
+    ensures { λ r. ⌜ Admits 36 12 (storageOf storage) (record { satellite = satellite; week = week; time = time }) status r ⌝ }
+{
+    let current = storage.current as usize;
+    admit(
+        current,
+        &storage.timed,
+        &storage.weeks,
+        &storage.tows,
+        &storage.counts,
+        &storage.satellites,
+        &storage.statuses,
+        36,
+        12,
+        satellite,
+        week,
+        time,
+        status,
+    )
+}
+
 // Stores a message. Refuses 1 for lent bytes other than 25,920 or a message other than 60, 12 for the record, 2, 3, 4 for satellite, week and time, 7 for a status above 3, then 10 for a full place.
 pub fn store(
     storage: MackStorage,
@@ -431,20 +482,51 @@ pub fn store(
 ) -> MackStored
     ensures { λ r. ⌜ StoreMack storage (now (memory .entry)) (record { message = now (message .entry); asked = record { satellite = satellite; week = week; time = time }; status = status }) r (now (memory .exit)) ⌝ }
 {
-    let refusal = refuses(storage, memory, message, satellite, week, time, status);
-    if refusal != 0 {
+    if memory.len() != 25920 {
         return MackStored {
             storage,
-            answer: StoreAnswer::Refused(refusal),
+            answer: StoreAnswer::Refused(1),
         };
     }
-    let spot = next_spot(storage, week, time);
-    let place = spot.place;
-    let number = spot.number;
-    copy_message(memory, 36 * place + number, message);
-    let next = enter(storage, place, number, satellite, week, time, status);
-    MackStored {
-        storage: next,
-        answer: StoreAnswer::Stored,
+    if message.len() != 60 {
+        return MackStored {
+            storage,
+            answer: StoreAnswer::Refused(1),
+        };
     }
+    match goes_to(storage, satellite, week, time, status) {
+        Admitted::Refused(n) => MackStored {
+            storage,
+            answer: StoreAnswer::Refused(n),
+        },
+        Admitted::At { place, number } => {
+            copy_message(memory, 36 * place + number, message);
+            let next = enter(storage, place, number, satellite, week, time, status);
+            MackStored {
+                storage: next,
+                answer: StoreAnswer::Stored,
+            }
+        }
+    }
+}
+
+// Where the first message of the satellite at that time lies, with its status. Refuses 12 for the record, 2, 3, 4 for satellite, week and time.
+pub fn get(storage: MackStorage, satellite: u8, week: u16, time: u32) -> MackFound
+    ensures { λ r. ⌜ GetMack storage (record { satellite = satellite; week = week; time = time }) r ⌝ }
+{
+    let current = storage.current as usize;
+    search(
+        current,
+        &storage.timed,
+        &storage.weeks,
+        &storage.tows,
+        &storage.counts,
+        &storage.satellites,
+        &storage.statuses,
+        36,
+        12,
+        satellite,
+        week,
+        time,
+    )
 }
