@@ -3,8 +3,11 @@ pub mod Pages
 pub mod Recovery
 pub mod SubframeUnique
 pub mod Unique
-pub mod Stored
-pub mod StoreUnique
 pub mod Bytes
-pub mod StoreTwice
+pub mod Searches
 pub mod StoreKept
+pub mod StoreRecord
+pub mod StoreSound
+pub mod StoreTwice
+pub mod StoreUnique
+pub mod Stored

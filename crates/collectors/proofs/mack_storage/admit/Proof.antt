@@ -1,6 +1,7 @@
 -- `mack_storage::admit`: the refusals, then where the message goes.
 -- Assumes nothing.
-use Rattle.collectors.proofs.Stored.{ask-legal, legal-current, not-asked, well-asked, spot-is}
+use Rattle.collectors.proofs.StoreRecord.{legal-current}
+use Rattle.collectors.proofs.Stored.{ask-legal, not-asked, well-asked, spot-is}
 use Rattle.collectors.specs.Store.{Storage, Asked}
 use mathlib.Core.Path.{sym, _∙_}
 use native.Mathlib.Omega.{arith}

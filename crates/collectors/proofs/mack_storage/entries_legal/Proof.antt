@@ -6,7 +6,8 @@ use Prim.Native.Nat.{_≤_, _-_}
 use native.Mathlib.Omega.{arith}
 use borrow.Author.Needs.{needs}
 use Rattle.collectors.specs.Store.{all}
-use Rattle.collectors.proofs.Stored.{legalAt, all-none, entries-stop, entries-go, entries-end}
+use Rattle.collectors.proofs.Searches.{all-none}
+use Rattle.collectors.proofs.StoreRecord.{legalAt, entries-stop, entries-go, entries-end}
 use Rattle.collectors.proofs.mack_storage.entries_legal.Statement.{statement}
 use Rattle.collectors.proofs.mack_storage.entries_legal.Tie as tie
 

@@ -1,6 +1,6 @@
 -- `mack_storage::entry_legal`: each part of the definition.
 -- Assumes nothing.
-use Rattle.collectors.proofs.Stored.{entry-low, entry-high, entry-status}
+use Rattle.collectors.proofs.StoreRecord.{entry-low, entry-high, entry-status}
 use Rattle.collectors.proofs.mack_storage.entry_legal.Statement.{statement}
 use Rattle.collectors.proofs.mack_storage.entry_legal.Tie as tie
 

@@ -5,7 +5,8 @@ use Prim.Native.Nat.{_≤_, _-_}
 use native.Mathlib.Omega.{arith}
 use borrow.Author.Needs.{needs}
 use Rattle.collectors.specs.Store.{first}
-use Rattle.collectors.proofs.Stored.{first-start, sentBy, sent-here, sent-later, sent-none}
+use Rattle.collectors.proofs.Searches.{first-start}
+use Rattle.collectors.proofs.StoreRecord.{sentBy, sent-here, sent-later, sent-none}
 use Rattle.collectors.proofs.mack_storage.first_of.Statement.{statement}
 use Rattle.collectors.proofs.mack_storage.first_of.Tie as tie
 

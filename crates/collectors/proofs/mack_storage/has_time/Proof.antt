@@ -1,6 +1,6 @@
 -- `mack_storage::has_time`: each part of the definition.
 -- Assumes nothing.
-use Rattle.collectors.proofs.Stored.{time-none, time-week, time-tow}
+use Rattle.collectors.proofs.StoreRecord.{time-none, time-week, time-tow}
 use Rattle.collectors.proofs.mack_storage.has_time.Statement.{statement}
 use Rattle.collectors.proofs.mack_storage.has_time.Tie as tie
 

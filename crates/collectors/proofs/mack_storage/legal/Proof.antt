@@ -6,7 +6,8 @@ use native.Mathlib.Omega.{arith}
 use borrow.Author.Needs.{needs}
 use mathlib.Core.Bool.{true}
 use Rattle.collectors.specs.Store.{Storage, all, legalPlace}
-use Rattle.collectors.proofs.Stored.{all-none, room, time-count, current-off, place-time-off, place-entries-off, place-on, places-end}
+use Rattle.collectors.proofs.Searches.{all-none}
+use Rattle.collectors.proofs.StoreRecord.{room, time-count, current-off, place-time-off, place-entries-off, place-on, places-end}
 use Rattle.collectors.proofs.mack_storage.legal.Statement.{statement}
 use Rattle.collectors.proofs.mack_storage.legal.Tie as tie
 

@@ -5,7 +5,8 @@ use Prim.Native.Nat.{_≤_, _-_}
 use native.Mathlib.Omega.{arith}
 use borrow.Author.Needs.{needs}
 use Rattle.collectors.specs.Store.{first}
-use Rattle.collectors.proofs.Stored.{first-start, timeIs, time-here, time-later, time-nowhere}
+use Rattle.collectors.proofs.Searches.{first-start}
+use Rattle.collectors.proofs.StoreRecord.{timeIs, time-here, time-later, time-nowhere}
 use Rattle.collectors.proofs.mack_storage.lowest.Statement.{statement}
 use Rattle.collectors.proofs.mack_storage.lowest.Tie as tie
 

@@ -1,6 +1,6 @@
 -- `mack_storage::next_place`: the last place is followed by place 0.
 -- Assumes nothing.
-use Rattle.collectors.proofs.Stored.{next-last, next-other}
+use Rattle.collectors.proofs.StoreRecord.{next-last, next-other}
 use borrow.Author.Needs.{needs}
 use Rattle.collectors.proofs.mack_storage.next_place.Statement.{statement}
 use Rattle.collectors.proofs.mack_storage.next_place.Tie as tie

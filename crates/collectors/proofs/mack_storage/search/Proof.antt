@@ -1,6 +1,7 @@
 -- `mack_storage::search`: the refusals, then the place that asking reaches.
 -- Assumes nothing.
-use Rattle.collectors.proofs.Stored.{room, ask-legal, legal-at, place-few, get-refused, get-nowhere, get-there}
+use Rattle.collectors.proofs.StoreRecord.{room, legal-at, place-few}
+use Rattle.collectors.proofs.Stored.{ask-legal, get-refused, get-nowhere, get-there}
 use Rattle.collectors.specs.Store.{Storage, Asked}
 use native.Mathlib.Omega.{arith}
 use borrow.Author.Needs.{needs}

@@ -1,6 +1,6 @@
 -- `mack_storage::time_legal`: each part of the definition.
 -- Assumes nothing.
-use Rattle.collectors.proofs.Stored.{count-high, untimed-count, week-off, week-on}
+use Rattle.collectors.proofs.StoreRecord.{count-high, untimed-count, week-off, week-on}
 use Rattle.collectors.proofs.mack_storage.time_legal.Statement.{statement}
 use Rattle.collectors.proofs.mack_storage.time_legal.Tie as tie
 
