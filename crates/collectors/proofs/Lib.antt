@@ -12,3 +12,11 @@ pub mod SubframeRun
 pub mod SubframeUnique
 pub mod TraceUnique
 pub mod Unique
+pub mod Bytes
+pub mod Searches
+pub mod StoreKept
+pub mod StoreRecord
+pub mod StoreSound
+pub mod StoreTwice
+pub mod StoreUnique
+pub mod Stored

@@ -10,3 +10,6 @@ pub mod SubframePromises
 pub mod SubframeRecovery
 pub mod Trace
 pub mod TracePromises
+pub mod Store
+pub mod StorePromises
+pub mod StoreKeeps
