@@ -1,8 +1,10 @@
-// Links the archive that FIRMWARE_ARCHIVE names into `compare`; the other programs need none.
+// Links the archives that FIRMWARE_ARCHIVE and PROBE_ARCHIVE name into the programs that call them; the others need none.
 fn main() {
-    println!("cargo:rerun-if-env-changed=FIRMWARE_ARCHIVE");
-    if let Some(archive) = std::env::var("FIRMWARE_ARCHIVE").ok().filter(|path| !path.is_empty()) {
-        println!("cargo:rerun-if-changed={archive}");
-        println!("cargo:rustc-link-arg-bin=compare={archive}");
+    for (variable, program) in [("FIRMWARE_ARCHIVE", "compare"), ("PROBE_ARCHIVE", "sequences")] {
+        println!("cargo:rerun-if-env-changed={variable}");
+        if let Some(archive) = std::env::var(variable).ok().filter(|path| !path.is_empty()) {
+            println!("cargo:rerun-if-changed={archive}");
+            println!("cargo:rustc-link-arg-bin={program}={archive}");
+        }
     }
 }

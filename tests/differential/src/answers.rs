@@ -12,6 +12,23 @@ pub struct Record {
     pub answer: Answer,
 }
 
+/// A record's bytes; message and output have at most 255.
+pub fn write(
+    out: &mut Vec<u8>,
+    function: u8,
+    message: &[u8],
+    args: [u32; 3],
+    answer: Result<[u64; 3], u8>,
+    output: &[u8],
+) {
+    let [mlen, olen] = [message.len(), output.len()].map(|length| u8::try_from(length).unwrap());
+    out.extend([function, mlen, olen, answer.err().unwrap_or(0)]);
+    args.iter().for_each(|x| out.extend(x.to_le_bytes()));
+    answer.unwrap_or_default().iter().for_each(|x| out.extend(x.to_le_bytes()));
+    out.extend(message);
+    out.extend(output);
+}
+
 impl Record {
     /// None where the call does not fit into a record.
     pub fn new(call: &Call, answer: Answer) -> Option<Record> {
@@ -22,12 +39,8 @@ impl Record {
 
     pub fn write(&self, out: &mut Vec<u8>) {
         let good = self.answer.unwrap_or_default();
-        let refusal = self.answer.err().unwrap_or(0) as u8;
-        out.extend([self.function.number(), self.message.len() as u8, good.many as u8, refusal]);
-        self.args.iter().for_each(|x| out.extend(x.to_le_bytes()));
-        good.values.iter().for_each(|x| out.extend(x.to_le_bytes()));
-        out.extend(&self.message);
-        out.extend(&good.output[..good.many]);
+        let answer = self.answer.map(|good| good.values).map_err(|number| number as u8);
+        write(out, self.function.number(), &self.message, self.args, answer, &good.output[..good.many]);
     }
 
     /// The first record of the bytes, and the bytes behind it.

@@ -29,6 +29,12 @@ impl Random {
         (0..many).map(|_| self.number() as u8).collect()
     }
 
+    /// Bytes, as many as one of the lengths.
+    pub fn bytes_of(&mut self, lengths: &[usize]) -> Vec<u8> {
+        let length = self.pick(lengths);
+        self.bytes(length)
+    }
+
     /// One of the lengths, mostly, or next to one, or any.
     fn length_around(&mut self, lengths: &[usize]) -> usize {
         let length = self.pick(lengths);

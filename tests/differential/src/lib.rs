@@ -2,6 +2,8 @@
 //! document 01 behind one kind of call, the inputs, and the list of recorded answers.
 pub mod answers;
 pub mod call;
+pub mod fields;
 pub mod inputs;
 pub mod model;
 pub mod published;
+pub mod sequence;

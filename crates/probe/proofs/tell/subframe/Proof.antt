@@ -1,0 +1,55 @@
+-- `tell::subframe`.
+-- Assumes nothing.
+use Rattle.probe.proofs.Telling.{page-refused, page-nothing, page-complete}
+use borrow.Author.Needs.{needs}
+use Rattle.probe.proofs.tell.subframe.Statement.{statement}
+use Rattle.probe.proofs.tell.subframe.Tie as tie
+
+enum-known-answer : tie.Need-enum-known-answer
+enum-known-answer c = search needs
+
+refused-requires : tie.Need-refused-requires
+refused-requires c κs = search needs
+
+enum-told : tie.Need-enum-told
+enum-told c = search needs
+
+nothing-requires : tie.Need-nothing-requires
+nothing-requires c κs = search needs
+
+enum-known-answer-2 : tie.Need-enum-known-answer-2
+enum-known-answer-2 c = search needs
+
+cast-given : tie.Need-cast-given
+cast-given c = search needs
+
+cast-given-2 : tie.Need-cast-given-2
+cast-given-2 c = search needs
+
+given-requires : tie.Need-given-requires
+given-requires c κs = search needs
+
+returns : tie.Need-returns
+returns c = search page-refused
+
+returns-2 : tie.Need-returns-2
+returns-2 c = search page-nothing
+
+returns-3 : tie.Need-returns-3
+returns-3 c = search page-complete
+
+pub subframe-spec : {M : Type 1} → statement M
+subframe-spec =
+    tie.close
+    (tie.spec
+    enum-known-answer
+    refused-requires
+    enum-told
+    nothing-requires
+    enum-known-answer-2
+    cast-given
+    cast-given-2
+    given-requires
+    returns
+    returns-2
+    returns-3)

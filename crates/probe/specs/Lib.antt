@@ -1,0 +1,4 @@
+pub mod Telling
+pub mod Subframe
+pub mod Dsm
+pub mod Store

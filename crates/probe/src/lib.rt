@@ -1,0 +1,5 @@
+// The collectors for tests and measurements in other languages: records go by value, an answer is four numbers.
+mod dsm;
+mod store;
+mod subframe;
+mod tell;
