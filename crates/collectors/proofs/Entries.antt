@@ -12,7 +12,7 @@ use Rattle.layouts.specs.Answer.{Answer, refused, nothing, gives, refusal}
 use Rattle.layouts.proofs.Answers.{none-fails}
 use Rattle.collectors.specs.Subframe.{State, Page, Fed, wordOf, subframeOf, small, viewChecks, feedChecks, changed, put4, answerAt, used, offered, feed}
 use Rattle.collectors.specs.Trace.{entryAt, entriesFrom, entries, FedMany, feedEach, traceChecks, feedAll}
-use Rattle.collectors.specs.Inner.{pageOf, stateOf, entryChecks, answerOf, usedOf, completesOf, Offered, PageFed, endsWith}
+use Rattle.collectors.specs.TraceInner.{pageOf, stateOf, entryChecks, answerOf, usedOf, completesOf, Offered, PageFed, endsWith}
 use Rattle.collectors.specs.declared.trace.Entry.{Entry}
 use Rattle.collectors.specs.declared.trace.PageTaken.{PageTaken}
 use Rattle.collectors.specs.declared.trace.PageTaken.the-variants.{Unused, Used, Completes}

@@ -16,7 +16,7 @@ use Rattle.collectors.specs.Subframe.{State, Page, Fed, WordStep, wordOf
 use Rattle.collectors.specs.SubframePromises.{state, TakeWord, meaning-word, sizeOf, bufferOf, meaning-shown, ViewSubframeShown, ViewSubframe}
 use Rattle.collectors.specs.declared.subframe.Message.{Message}
 use Rattle.collectors.specs.declared.subframe.Message.the-variants.{Hkroot, Mack}
-use Rattle.collectors.specs.Inner.{Inside}
+use Rattle.collectors.specs.SubframeInner.{Inside}
 use Rattle.collectors.specs.declared.subframe.CollectSubframe.{CollectSubframe}
 use Rattle.collectors.specs.declared.subframe.SubframeShown.{SubframeShown}
 use Rattle.collectors.specs.declared.subframe.SubframeShown.the-variants.{Shown, Nothing as NothingShown, Refused as NotShown}

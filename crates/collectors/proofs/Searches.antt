@@ -68,6 +68,12 @@ all-at test (suc n) i e h = go (eqb i n) refl (all-at test n i (and-left (all te
     go true q ih = rw (eqb-true i n q) (and-right (all test n) (test n) e)
     go false q ih = ih (omega (arith, eqb-false i n q))
 
+pub and-first : {a : Bool} (b : Bool) → a ≡ false → (a && b) ≡ false
+and-first b e = rw e
+
+pub and-last : {a b : Bool} → a ≡ true → b ≡ false → (a && b) ≡ false
+and-last e f = rw (e, f)
+
 pub and-both : {a b : Bool} → a ≡ true → b ≡ true → (a && b) ≡ true
 and-both e f = rw (e, f)
 

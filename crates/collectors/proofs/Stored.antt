@@ -11,9 +11,10 @@ use borrow.Author.Tests.{le-ltb, lt-ltb, eq-eqb, ne-eqb, eqb-true, eqb-false, lt
 use Rattle.layouts.specs.Answer.{Answer, refused, nothing, gives, refusal}
 use Rattle.collectors.specs.declared.mack_storage.Admitted.{Admitted}
 use Rattle.collectors.specs.declared.mack_storage.Admitted.the-variants.{Refused as NotAdmitted, At}
-use Rattle.collectors.specs.Inner.{Admits}
+use Rattle.collectors.specs.StoreInner.{Admits, AdmitsAt, fullAt, movesAt}
 use Rattle.layouts.proofs.Answers.{none-fails, stopped, went-on, refused-with, given-with}
 use Rattle.collectors.specs.Store.{Storage, State, Asked, Call, Outcome, first, entry, legalPlace, legal, isTime, hasTime, timeChecks, askChecks, full, statusChecks, entryChecks, storeChecks, nextPlace, moves, placeFor, numberFor, placeOf, numberOf, entered, put, stored, store, reached, firstOf, foundAmong, found, get}
+use Rattle.collectors.proofs.Searches.{and-both, and-first, and-last}
 use Rattle.collectors.proofs.StoreRecord.{next-below, sentBy, legal-current, legal-at, place-few, place-untimed}
 
 -- The refusals of what is asked.
@@ -92,35 +93,35 @@ module _ (messages times : ℕ) (o : Storage) (a : Asked) (status : ℕ) {q : �
   pub not-asked : (q ≡ 0 → ⊥) → q ≡ refusal (entryChecks messages times o a status)
   not-asked ne = stopped (askChecks messages times o a) (statusChecks status (full messages o (a .week) (a .time))) e ne
 
-  pub well-asked : q ≡ 0 → {same : Bool} {r : ℕ} → same ≡ hasTime o (a .week) (a .time) (o .current)
-      → r ≡ refusal (statusChecks status (same && eqb (getD (o .counts) (o .current) 0) messages)) → r ≡ refusal (entryChecks messages times o a status)
-  well-asked z h g =
-      went-on (askChecks messages times o a) (statusChecks status (full messages o (a .week) (a .time))) tt e z
-      (g ∙ ap (λ (x : Bool). refusal (statusChecks status (x && eqb (getD (o .counts) (o .current) 0) messages))) h)
+  -- what the numbers of the current place tell
+  pub told-there : q ≡ 0 → (x : Admitted) → AdmitsAt messages times (o .current) (getD (o .timed) (o .current) false) (getD (o .weeks) (o .current) 0) (getD (o .tows) (o .current) 0) (getD (o .counts) (o .current) 0) a status x
+      → Admits messages times o a status x
+  unfolding placeFor numberFor
+  told-there z (NotAdmitted n) f = (went-on (askChecks messages times o a) (statusChecks status (full messages o (a .week) (a .time))) tt e z (f .0), f .1)
+  told-there z (At p j) f = (sym (went-on (askChecks messages times o a) (statusChecks status (full messages o (a .week) (a .time))) tt e z (sym (f .0))), f .1, f .2)
 
--- Where a message goes.
-module _ (times current : ℕ) (timed same : Bool) (count : ℕ) where
-  pub spot-untimed : not timed ≡ true → (current ≡ cond (timed && not same) (nextPlace times current) current) × (count ≡ cond (timed && not same) 0 count)
-  spot-untimed e = rw (not-true timed e) (refl, refl)
+-- Where a message goes, by the numbers of the current place.
+module _ (messages times current : ℕ) (timed : Bool) (week tow count : ℕ) (a : Asked) (status : ℕ) {same : Bool} (h : same ≡ isTime timed week tow (a .week) (a .time))
+    {r : ℕ} (e : r ≡ refusal (statusChecks status (same && eqb count messages))) where
+  pub at-refused : r ≡ refusal (statusChecks status (fullAt messages timed week tow count a))
+  at-refused = e ∙ ap (λ (x : Bool). refusal (statusChecks status (x && eqb count messages))) h
 
-  pub spot-same : same ≡ true → (current ≡ cond (timed && not same) (nextPlace times current) current) × (count ≡ cond (timed && not same) 0 count)
-  spot-same e = go timed
-    where
-      go : (b : Bool) → (current ≡ cond (b && not same) (nextPlace times current) current) × (count ≡ cond (b && not same) 0 count)
-      go true = rw e (refl, refl)
-      go false = (refl, refl)
+  module _ (z : r ≡ 0) where
+    at-moved : (b : Bool) → movesAt timed week tow a ≡ b → {p j : ℕ} → p ≡ cond b (nextPlace times current) current → j ≡ cond b 0 count → AdmitsAt messages times current timed week tow count a status (At p j)
+    at-moved b m g k = (
+      sym at-refused ∙ z,
+      g ∙ ap (λ (x : Bool). cond x (nextPlace times current) current) (sym m),
+      k ∙ ap (λ (x : Bool). cond x 0 count) (sym m),
+    )
 
-  pub spot-moved : not timed ≡ false → same ≡ false → {p : ℕ} → p ≡ nextPlace times current → (p ≡ cond (timed && not same) (nextPlace times current) current) × (0 ≡ cond (timed && not same) 0 count)
-  spot-moved e g h = rw (not-false timed e, g) (h, refl)
+    pub at-next : timed ≡ true → not same ≡ true → {p : ℕ} → p ≡ nextPlace times current → AdmitsAt messages times current timed week tow count a status (At p 0)
+    at-next t n g = at-moved true (and-both t (ap not (sym h) ∙ n)) g refl
 
-pub spot-is : (times : ℕ) (o : Storage) (week time : ℕ) {same : Bool} {p j : ℕ} → same ≡ hasTime o week time (o .current)
-    → (p ≡ cond (getD (o .timed) (o .current) false && not same) (nextPlace times (o .current)) (o .current)) × (j ≡ cond (getD (o .timed) (o .current) false && not same) 0 (getD (o .counts) (o .current) 0))
-    → (p ≡ placeFor times o week time) × (j ≡ numberFor o week time)
-unfolding placeFor numberFor
-spot-is times o week time h e = (
-  e .0 ∙ ap (λ (x : Bool). cond (getD (o .timed) (o .current) false && not x) (nextPlace times (o .current)) (o .current)) h,
-  e .1 ∙ ap (λ (x : Bool). cond (getD (o .timed) (o .current) false && not x) 0 (getD (o .counts) (o .current) 0)) h,
-)
+    pub at-same : timed ≡ true → not same ≡ false → AdmitsAt messages times current timed week tow count a status (At current count)
+    at-same t n = at-moved false (and-last t (ap not (sym h) ∙ n)) refl refl
+
+    pub at-untimed : timed ≡ false → AdmitsAt messages times current timed week tow count a status (At current count)
+    at-untimed t = at-moved false (and-first _ t) refl refl
 
 -- what holds of a message that is not refused
 pub record Fine (messages times : ℕ) (s : State) (c : Call) : Type 0 where

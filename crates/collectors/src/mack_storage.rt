@@ -7,7 +7,7 @@ ghost use lib.ListN.{length, getD};
 ghost use lib.Dec.{eqb};
 ghost use Rattle.layouts.specs.Answer.{refusal as refusalOf};
 ghost use Rattle.collectors.specs.Store.{legalEntry, legalTime, legalEntries, legal as legalOf, isTime, timeChecks, askChecks, statusChecks, nextPlace, entered, put, first as firstNumber, foundAmong, get as getOf};
-ghost use Rattle.collectors.specs.Inner.{Fits, Admits};
+ghost use Rattle.collectors.specs.StoreInner.{askedOf, Fits, Admits, AdmitsAt};
 ghost use Rattle.collectors.specs.StorePromises.{storageOf, meaning-found, NewStorage, StoreMack, GetMack};
 
 // What each place and each message of it has; the bytes of the messages are lent by the caller.
@@ -38,6 +38,13 @@ pub enum MackFound {
     At { first: usize, status: u8 },
     Nothing,
     Refused(u8),
+}
+
+// What is asked for, or stored: a satellite and a time.
+struct Asked {
+    satellite: u8,
+    week: u16,
+    time: u32,
 }
 
 pub fn new() -> MackStorage
@@ -193,19 +200,19 @@ fn first_of(satellites: &[u8], at: usize, many: usize, satellite: u8) -> usize
 }
 
 // The refusal number of a satellite and a time; 0 for none.
-fn asked_refuses(satellite: u8, week: u16, time: u32) -> u8
-    ensures { λ r. ⌜ r ≡ refusalOf (timeChecks (record { satellite = satellite; week = week; time = time })) ⌝ }
+fn asked_refuses(asked: Asked) -> u8
+    ensures { λ r. ⌜ r ≡ refusalOf (timeChecks (askedOf asked)) ⌝ }
 {
-    if satellite < 1 {
+    if asked.satellite < 1 {
         return 2;
     }
-    if 36 < satellite {
+    if 36 < asked.satellite {
         return 2;
     }
-    if 4095 < week {
+    if 4095 < asked.week {
         return 3;
     }
-    if 604799 < time {
+    if 604799 < asked.time {
         return 4;
     }
     0
@@ -222,12 +229,10 @@ fn ask_refuses<'a>(
     statuses: &'a [u8],
     messages: usize,
     times: usize,
-    satellite: u8,
-    week: u16,
-    time: u32,
+    asked: Asked,
 ) -> u8
     requires { ⌜ Fits messages times (record { current = current; timed = now timed; weeks = now weeks; tows = now tows; counts = now counts; satellites = now satellites; statuses = now statuses }) ⌝ }
-    ensures { λ r. ⌜ r ≡ refusalOf (askChecks messages times (record { current = current; timed = now (timed .entry); weeks = now (weeks .entry); tows = now (tows .entry); counts = now (counts .entry); satellites = now (satellites .entry); statuses = now (statuses .entry) }) (record { satellite = satellite; week = week; time = time })) ⌝ }
+    ensures { λ r. ⌜ r ≡ refusalOf (askChecks messages times (record { current = current; timed = now (timed .entry); weeks = now (weeks .entry); tows = now (tows .entry); counts = now (counts .entry); satellites = now (satellites .entry); statuses = now (statuses .entry) }) (askedOf asked)) ⌝ }
 {
     if !legal(
         current,
@@ -242,7 +247,7 @@ fn ask_refuses<'a>(
     ) {
         return 12;
     }
-    asked_refuses(satellite, week, time)
+    asked_refuses(asked)
 }
 
 // The first message of the satellite among `many` from number `at` on.
@@ -278,12 +283,10 @@ fn search<'a>(
     statuses: &'a [u8],
     messages: usize,
     times: usize,
-    satellite: u8,
-    week: u16,
-    time: u32,
+    asked: Asked,
 ) -> MackFound
     requires { ⌜ Fits messages times (record { current = current; timed = now timed; weeks = now weeks; tows = now tows; counts = now counts; satellites = now satellites; statuses = now statuses }) ⌝ }
-    ensures { λ r. ⌜ meaning-found r ≡ getOf messages times (record { current = current; timed = now (timed .entry); weeks = now (weeks .entry); tows = now (tows .entry); counts = now (counts .entry); satellites = now (satellites .entry); statuses = now (statuses .entry) }) (record { satellite = satellite; week = week; time = time }) ⌝ }
+    ensures { λ r. ⌜ meaning-found r ≡ getOf messages times (record { current = current; timed = now (timed .entry); weeks = now (weeks .entry); tows = now (tows .entry); counts = now (counts .entry); satellites = now (satellites .entry); statuses = now (statuses .entry) }) (askedOf asked) ⌝ }
 {
     let refusal = ask_refuses(
         current,
@@ -295,19 +298,23 @@ fn search<'a>(
         statuses,
         messages,
         times,
-        satellite,
-        week,
-        time,
+        asked,
     );
     if refusal != 0 {
         return MackFound::Refused(refusal);
     }
-    let place = lowest(timed, weeks, tows, times, week, time);
+    let place = lowest(timed, weeks, tows, times, asked.week, asked.time);
     if times <= place {
         return MackFound::Nothing;
     }
     let many = counts[place] as usize;
-    find(satellites, statuses, messages * place, many, satellite)
+    find(
+        satellites,
+        statuses,
+        messages * place,
+        many,
+        asked.satellite,
+    )
 }
 
 // The refusal number of what is stored, after those of the record, satellite and time; 0 for none.
@@ -325,35 +332,6 @@ fn status_refuses(status: u8, same: bool, count: usize, messages: usize) -> u8
     0
 }
 
-// Where a message goes.
-struct Spot {
-    place: usize,
-    number: usize,
-}
-
-// A message of another time than the current place's goes to the next place, which is emptied; one of its own time, or at a place without a time, is appended.
-fn spot_for(times: usize, current: usize, timed: bool, same: bool, count: usize) -> Spot
-    requires { ⌜ current < times ⌝ }
-    ensures { λ r. ⌜ (r .place ≡ cond (timed && not same) (nextPlace times current) current) × (r .number ≡ cond (timed && not same) 0 count) ⌝ }
-{
-    if !timed {
-        return Spot {
-            place: current,
-            number: count,
-        };
-    }
-    if same {
-        return Spot {
-            place: current,
-            number: count,
-        };
-    }
-    Spot {
-        place: next_place(times, current),
-        number: 0,
-    }
-}
-
 // Message `i` goes to its place in the lent bytes.
 fn copy_message(memory: &mut [u8], i: usize, message: &[u8])
     requires { ⌜ (60 * i + 60 ≤ length (now memory)) × (length (now message) ≡ 60) ⌝ }
@@ -367,10 +345,44 @@ fn copy_message(memory: &mut [u8], i: usize, message: &[u8])
     }
 }
 
-// Where a message goes, or the refusal number.
+// Where a message goes: a message of another time than the current place's to the next place, which is emptied; one of its own time, or at a place without a time, behind those that are there. Or the refusal number.
 enum Admitted {
     Refused(u8),
     At { place: usize, number: usize },
+}
+
+// The same, where nothing else is refused, from the numbers of the current place.
+fn admit_at(
+    messages: usize,
+    times: usize,
+    current: usize,
+    timed: bool,
+    week: u16,
+    tow: u32,
+    count: usize,
+    asked: Asked,
+    status: u8,
+) -> Admitted
+    requires { ⌜ current < times ⌝ }
+    ensures { λ r. ⌜ AdmitsAt messages times current timed week tow count (askedOf asked) status r ⌝ }
+{
+    let same = has_time(timed, week, tow, asked.week, asked.time);
+    let refusal = status_refuses(status, same, count, messages);
+    if refusal != 0 {
+        return Admitted::Refused(refusal);
+    }
+    if timed {
+        if !same {
+            return Admitted::At {
+                place: next_place(times, current),
+                number: 0,
+            };
+        }
+    }
+    Admitted::At {
+        place: current,
+        number: count,
+    }
 }
 
 // Where a message of that satellite, time and status goes, in a store of so many messages and times.
@@ -384,13 +396,11 @@ fn admit<'a>(
     statuses: &'a [u8],
     messages: usize,
     times: usize,
-    satellite: u8,
-    week: u16,
-    time: u32,
+    asked: Asked,
     status: u8,
 ) -> Admitted
     requires { ⌜ Fits messages times (record { current = current; timed = now timed; weeks = now weeks; tows = now tows; counts = now counts; satellites = now satellites; statuses = now statuses }) ⌝ }
-    ensures { λ r. ⌜ Admits messages times (record { current = current; timed = now (timed .entry); weeks = now (weeks .entry); tows = now (tows .entry); counts = now (counts .entry); satellites = now (satellites .entry); statuses = now (statuses .entry) }) (record { satellite = satellite; week = week; time = time }) status r ⌝ }
+    ensures { λ r. ⌜ Admits messages times (record { current = current; timed = now (timed .entry); weeks = now (weeks .entry); tows = now (tows .entry); counts = now (counts .entry); satellites = now (satellites .entry); statuses = now (statuses .entry) }) (askedOf asked) status r ⌝ }
 {
     let refusal = ask_refuses(
         current,
@@ -402,55 +412,45 @@ fn admit<'a>(
         statuses,
         messages,
         times,
-        satellite,
-        week,
-        time,
+        asked,
     );
     if refusal != 0 {
         return Admitted::Refused(refusal);
     }
-    let has = timed[current];
-    let same = has_time(has, weeks[current], tows[current], week, time);
     let count = counts[current] as usize;
-    let full = status_refuses(status, same, count, messages);
-    if full != 0 {
-        return Admitted::Refused(full);
-    }
-    let spot = spot_for(times, current, has, same, count);
-    Admitted::At {
-        place: spot.place,
-        number: spot.number,
-    }
+    admit_at(
+        messages,
+        times,
+        current,
+        timed[current],
+        weeks[current],
+        tows[current],
+        count,
+        asked,
+        status,
+    )
 }
 
 // The record with one message more: number `number` of that place, which has that time from now on.
-fn enter(
-    storage: MackStorage,
-    place: usize,
-    number: usize,
-    satellite: u8,
-    week: u16,
-    time: u32,
-    status: u8,
-) -> MackStorage
+fn enter(storage: MackStorage, place: usize, number: usize, asked: Asked, status: u8) -> MackStorage
     requires { ⌜ (place < 12) × (number < 36) ⌝ }
-    ensures { λ r. ⌜ storageOf r ≡ entered 36 (storageOf storage) place number (record { satellite = satellite; week = week; time = time }) status ⌝ }
+    ensures { λ r. ⌜ storageOf r ≡ entered 36 (storageOf storage) place number (askedOf asked) status ⌝ }
 {
     let mut next = storage;
     let i = 36 * place + number;
     next.current = place as u8;
     next.timed[place] = true;
-    next.weeks[place] = week;
-    next.tows[place] = time;
+    next.weeks[place] = asked.week;
+    next.tows[place] = asked.time;
     next.counts[place] = (number + 1) as u8;
-    next.satellites[i] = satellite;
+    next.satellites[i] = asked.satellite;
     next.statuses[i] = status;
     next
 }
 
 // Where a message of that satellite, time and status goes, by this record.
-fn goes_to(storage: MackStorage, satellite: u8, week: u16, time: u32, status: u8) -> Admitted
-    ensures { λ r. ⌜ Admits 36 12 (storageOf storage) (record { satellite = satellite; week = week; time = time }) status r ⌝ }
+fn goes_to(storage: MackStorage, asked: Asked, status: u8) -> Admitted
+    ensures { λ r. ⌜ Admits 36 12 (storageOf storage) (askedOf asked) status r ⌝ }
 {
     let current = storage.current as usize;
     admit(
@@ -463,9 +463,7 @@ fn goes_to(storage: MackStorage, satellite: u8, week: u16, time: u32, status: u8
         &storage.statuses,
         36,
         12,
-        satellite,
-        week,
-        time,
+        asked,
         status,
     )
 }
@@ -494,14 +492,19 @@ pub fn store(
             answer: StoreAnswer::Refused(1),
         };
     }
-    match goes_to(storage, satellite, week, time, status) {
+    let asked = Asked {
+        satellite,
+        week,
+        time,
+    };
+    match goes_to(storage, asked, status) {
         Admitted::Refused(n) => MackStored {
             storage,
             answer: StoreAnswer::Refused(n),
         },
         Admitted::At { place, number } => {
             copy_message(memory, 36 * place + number, message);
-            let next = enter(storage, place, number, satellite, week, time, status);
+            let next = enter(storage, place, number, asked, status);
             MackStored {
                 storage: next,
                 answer: StoreAnswer::Stored,
@@ -515,6 +518,11 @@ pub fn get(storage: MackStorage, satellite: u8, week: u16, time: u32) -> MackFou
     ensures { λ r. ⌜ GetMack storage (record { satellite = satellite; week = week; time = time }) r ⌝ }
 {
     let current = storage.current as usize;
+    let asked = Asked {
+        satellite,
+        week,
+        time,
+    };
     search(
         current,
         &storage.timed,
@@ -525,8 +533,6 @@ pub fn get(storage: MackStorage, satellite: u8, week: u16, time: u32) -> MackFou
         &storage.statuses,
         36,
         12,
-        satellite,
-        week,
-        time,
+        asked,
     )
 }

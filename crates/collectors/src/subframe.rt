@@ -6,7 +6,7 @@ ghost use Prim.Native.Nat.{ℕ, _+_, _*_, _≤_, _<_};
 ghost use lib.ListN.{length, getD, set, take, drop};
 ghost use Rattle.layouts.specs.Answer.{shown as shownOf, refusal as refusalOf};
 ghost use Rattle.collectors.specs.Subframe.{Page, Fed, small, viewChecks, feedChecks, changed, put4, answerAt, used, offered};
-ghost use Rattle.collectors.specs.Inner.{Inside};
+ghost use Rattle.collectors.specs.SubframeInner.{Inside};
 ghost use Rattle.collectors.specs.SubframePromises.{state, outcome, meaning-subframe, meaning-shown, NewSubframe, TakeWord, FeedSubframe, sizeOf, ViewSubframeShown, ViewSubframe, HkrootMessageRead};
 
 // How many words of a satellite's subframe have come, and to which subframe they belong; the bytes are lent by the caller.

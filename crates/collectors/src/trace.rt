@@ -11,7 +11,7 @@ ghost use Rattle.collectors.specs.Subframe.{feedChecks, viewChecks, chan
 ghost use Rattle.collectors.specs.SubframePromises.{state, meaning-subframe};
 ghost use Rattle.collectors.specs.Trace.{entryAt, entries as entriesOf, feedEach, traceChecks};
 ghost use Rattle.collectors.specs.TracePromises.{outcome-all, FeedAll};
-ghost use Rattle.collectors.specs.Inner.{pageOf, stateOf, entryChecks, completesOf, Offered, PageFed, endsWith, fedOf};
+ghost use Rattle.collectors.specs.TraceInner.{pageOf, stateOf, entryChecks, completesOf, Offered, PageFed, endsWith, fedOf};
 
 pub struct TraceFed {
     pub collector: CollectSubframe,

@@ -4,7 +4,7 @@ use Prim.Native.Nat.{_-_}
 use mathlib.Core.Path.{sym, _∙_}
 use native.Mathlib.Omega.{arith}
 use borrow.Author.Needs.{needs}
-use Rattle.collectors.specs.Inner.{stateOf}
+use Rattle.collectors.specs.TraceInner.{stateOf}
 use Rattle.collectors.specs.SubframePromises.{state}
 use Rattle.collectors.proofs.Entries.{Left, turn-first, turn-none, turn-ends, turn-asks, turn-time, turn-sound, turn-completes, turn-goes-on}
 use Rattle.collectors.proofs.trace.feed_entries.Statement.{statement}

@@ -2,7 +2,7 @@
 -- Assumes nothing.
 use Rattle.collectors.proofs.Entries.{same-subframe}
 use Rattle.collectors.proofs.Pages.{other-week-taken, other-subframe-taken}
-use Rattle.collectors.specs.Inner.{stateOf}
+use Rattle.collectors.specs.TraceInner.{stateOf}
 use Rattle.collectors.proofs.trace.restart.Statement.{statement}
 use Rattle.collectors.proofs.trace.restart.Tie as tie
 

@@ -1,28 +1,17 @@
--- What private functions of the collectors need and do. No promise of a public function cites this file.
+-- What private functions of `trace` need and do. No promise of a public function cites this file.
 -- Assumes nothing.
-use Prim.Native.Nat.{ℕ, _+_, _-_, _*_, _≤_}
+use Prim.Native.Nat.{ℕ, _-_, _*_}
 use mathlib.Core.Path.{_≡_}
 use mathlib.Core.List.{List, [], _∷_}
 use mathlib.Core.Bool.{Bool, true, false, cond}
-use lib.ListN.{length, getD}
+use lib.ListN.{getD}
 use lib.Dec.{ltb, eqb}
-use Rattle.layouts.specs.Answer.{Answer, refused, nothing, gives, Check, _when_, refusal}
-use Rattle.collectors.specs.Store.{Storage, Asked, entryChecks as storeChecks, placeFor, numberFor}
+use Rattle.layouts.specs.Answer.{Answer, refused, nothing, gives, Check, _when_}
 use Rattle.collectors.specs.Subframe.{State, Page, Fed, wordOf, subframeOf, changed, offered, feed}
 use Rattle.collectors.specs.Trace.{FedMany}
-use Rattle.collectors.specs.declared.mack_storage.Admitted.{Admitted}
-use Rattle.collectors.specs.declared.mack_storage.Admitted.the-variants.{Refused as NotAdmitted, At}
-use Rattle.collectors.specs.declared.subframe.SubframeShown.{SubframeShown}
-use Rattle.collectors.specs.declared.subframe.SubframeShown.the-variants.{Shown, Nothing, Refused}
 use Rattle.collectors.specs.declared.trace.Entry.{Entry}
 use Rattle.collectors.specs.declared.trace.PageTaken.{PageTaken}
 use Rattle.collectors.specs.declared.trace.PageTaken.the-variants.{Unused, Used, Completes}
-
--- what is shown lies within that many bytes
-abbrev pub Inside : SubframeShown → ℕ → Type 0
-Inside (Shown first many) len = first + many ≤ len
-Inside Nothing len = Unit {0}
-Inside (Refused n) len = Unit {0}
 
 -- an entry with its page's bytes
 abbrev pub pageOf : Entry → List ℕ → Page
@@ -73,19 +62,3 @@ endsWith n q = cond (eqb n 0) (refused q) nothing
 -- an outcome from its parts
 abbrev pub fedOf : ℕ → ℕ → List ℕ → Answer → ℕ → List ℕ → List ℕ → FedMany
 fedOf week subframe counts answer consumed hkroot mack = record { state = stateOf week subframe counts hkroot mack; answer = answer; consumed = consumed }
-
--- the lists of a store have the lengths of so many messages and times
-pub record Fits (messages times : ℕ) (o : Storage) : Type 0 where
-  pub timed-long : length (o .timed) ≡ times
-  pub weeks-long : length (o .weeks) ≡ times
-  pub tows-long : length (o .tows) ≡ times
-  pub counts-long : length (o .counts) ≡ times
-  pub satellites-long : length (o .satellites) ≡ messages * times
-  pub statuses-long : length (o .statuses) ≡ messages * times
-  pub few : messages * times ≤ 65535
-
--- where a message goes, or why not
-abbrev pub Admits : ℕ → ℕ → Storage → Asked → ℕ → Admitted → Type 0
-Admits messages times o a status (NotAdmitted n) = (n ≡ refusal (storeChecks messages times o a status)) × (n ≡ 0 → ⊥)
-Admits messages times o a status (At p j) =
-    (refusal (storeChecks messages times o a status) ≡ 0) × (p ≡ placeFor times o (a .week) (a .time)) × (j ≡ numberFor o (a .week) (a .time))
