@@ -2,5 +2,8 @@ pub mod Dsm
 pub mod Inner
 pub mod Promises
 pub mod Recovery
+pub mod Replay
+pub mod ReplayInner
+pub mod ReplayPromises
 pub mod Subframe
 pub mod SubframePromises

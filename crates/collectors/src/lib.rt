@@ -1,3 +1,4 @@
 // The collectors of messages. They see only what `layouts` promises.
 pub mod dsm;
+pub mod replay;
 pub mod subframe;

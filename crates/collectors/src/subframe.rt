@@ -118,7 +118,12 @@ fn all_small(counts: [u8; 36]) -> bool
 }
 
 // The refusal number of the lent bytes, the record and the satellite; 0 for none.
-fn view_refuses(collector: CollectSubframe, hkroot: &[u8], mack: &[u8], satellite: u8) -> u8
+pub(crate) fn view_refuses(
+    collector: CollectSubframe,
+    hkroot: &[u8],
+    mack: &[u8],
+    satellite: u8,
+) -> u8
     ensures { λ r. ⌜ r ≡ refusalOf (viewChecks (state collector (now (hkroot .entry)) (now (mack .entry))) satellite) ⌝ }
 {
     if hkroot.len() != 540 {
@@ -175,7 +180,7 @@ fn refuses(
 }
 
 // The collector at a page of that week and subframe: all counts 0 where either differs.
-fn change(collector: CollectSubframe, week: u16, subframe: u16) -> CollectSubframe
+pub(crate) fn change(collector: CollectSubframe, week: u16, subframe: u16) -> CollectSubframe
     ensures { λ r. ⌜ ((h m : List ℕ) → state r h m ≡ changed (state collector h m) week subframe) ⌝ }
 {
     if collector.week != week {
