@@ -1,7 +1,9 @@
 pub mod Blocks
 pub mod PageFold
+pub mod PagePieces
 pub mod PageSteps
 pub mod Pages
 pub mod Recovery
+pub mod ReplayUnique
 pub mod SubframeUnique
 pub mod Unique

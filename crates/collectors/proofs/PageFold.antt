@@ -1,7 +1,7 @@
 -- Laws of the fold of page steps: what fifteen pages can complete, and what stays in range.
 -- Assumes nothing.
 use Prim.Native.Nat.{ℕ, zero, suc, _+_, _-_, _*_, _/_, _%_, _^_, _≤_, _<_}
-use native.Mathlib.Nat.{add-zero, zero-add}
+use native.Mathlib.Nat.{add-zero}
 use native.Mathlib.Omega.{arith}
 use native.Mathlib.Numerals.{add-one}
 use mathlib.Core.Path.{_≡_, refl, sym, ap, _∙_}
@@ -175,18 +175,18 @@ at-most-one s ps h =
     let q = at-most ps (record { state = s; subframes = []; dsms = [] }) (omega arith) in
     record { subframe-one = q .0; dsm-one = q .1 }
 
--- What stays in range: the satellite, the time, and the totals where they were at most 2^62 before n pages.
+-- What stays in range: the satellite and the time, and how far the totals go.
 pub record Sound (s : State) (n : ℕ) : Type 0 where
   pub some : 1 ≤ s .satellite
   pub few : s .satellite ≤ 36
   pub in-weeks : s .next .week ≤ 4095
   pub in-week : s .next .time ≤ 604799
-  pub pages-few : s .totals .pages ≤ most + n
-  pub skipped-few : s .totals .skipped ≤ most + n
-  pub used-few : s .totals .used ≤ most + n
-  pub unused-few : s .totals .unused ≤ most + n
-  pub subframes-few : s .totals .subframes ≤ most + n
-  pub dsms-few : s .totals .dsms ≤ most + n
+  pub pages-few : s .totals .pages ≤ n
+  pub skipped-few : s .totals .skipped ≤ n
+  pub used-few : s .totals .used ≤ n
+  pub unused-few : s .totals .unused ≤ n
+  pub subframes-few : s .totals .subframes ≤ n
+  pub dsms-few : s .totals .dsms ≤ n
 
 later-weeks : (t : Time) → t .week ≤ 4095 → later t .week ≤ 4095
 unfolding later
@@ -239,7 +239,7 @@ sound-skipped s n h =
       dsms-few = omega (arith, h .dsms-few);
     }
 
-sound-step : (s : State) (n : ℕ) (page : List ℕ) → Sound s n → Sound (pageStep s page .state) (n + 1)
+pub sound-step : (s : State) (n : ℕ) (page : List ℕ) → Sound s n → Sound (pageStep s page .state) (n + 1)
 unfolding pageStep
 sound-step s n page h = go (isCounted page)
   where
@@ -274,21 +274,21 @@ sound-onward (p ∷ ps) r n h =
     let same : n + suc (length ps) ≡ n + 1 + length ps = omega arith in
     rw same (sound-onward ps (andThen r p) (n + 1) (sound-step (r .state) n p h))
 
-pub sound-replayed : (s : State) (ps : List (List ℕ)) → Sound s 0 → Sound (replayed s ps .state) (length ps)
+pub sound-replayed : (s : State) (ps : List (List ℕ)) (n : ℕ) → Sound s n → Sound (replayed s ps .state) (n + length ps)
 unfolding replayed
-sound-replayed s ps h = rw (zero-add (length ps)) at (sound-onward ps (record { state = s; subframes = []; dsms = [] }) 0 h)
+sound-replayed s ps n h = sound-onward ps (record { state = s; subframes = []; dsms = [] }) n h
 
 -- A turn of the loop over the pages: what is known before it, and after it.
 module _ (s : State) (bytes : List ℕ) (k : ℕ) (x : Stepped) (h m d : List ℕ) (e : ran x h m d ≡ replayed s (pagesOf k bytes)) where
-  turn-sound : Sound s 0 → Sound (state (x .replay) h m d) k
+  turn-sound : Sound s most → Sound (state (x .replay) h m d) (most + k)
   turn-sound f =
-      let q : Sound (replayed s (pagesOf k bytes) .state) (length (pagesOf k bytes)) = sound-replayed s (pagesOf k bytes) f in
+      let q : Sound (replayed s (pagesOf k bytes) .state) (most + length (pagesOf k bytes)) = sound-replayed s (pagesOf k bytes) most f in
       rw (pages-many k bytes, ← e) at q
 
-  pub turn-range : Sound s 0 → InRange (x .replay)
+  pub turn-range : Sound s most → InRange (x .replay)
   turn-range f = let q = turn-sound f in record { some = q .some; few = q .few; in-weeks = q .in-weeks; in-week = q .in-week }
 
-  pub turn-room : Sound s 0 → k < 15 → Room (x .replay) (2 ^ 62 + 14)
+  pub turn-room : Sound s most → k < 15 → Room (x .replay) (2 ^ 62 + 14)
   turn-room f l =
       let q = turn-sound f in
       record {
@@ -317,7 +317,7 @@ slice-30 bytes k = let w : 30 * k + 30 - 30 * k ≡ 30 = omega arith in rw w
 pub slice-long : (bytes : List ℕ) (k n : ℕ) → k < n → 30 * n ≤ length bytes → length (take (30 * k + 30 - 30 * k) (drop (30 * k) bytes)) ≡ 30
 slice-long bytes k n h l = simp (length-take, length-drop) (omega arith)
 
-pub sound-first : (r : PageReplay) (h m d : List ℕ) → InRange r → Room r (2 ^ 62) → Sound (state r h m d) 0
+pub sound-first : (r : PageReplay) (h m d : List ℕ) → InRange r → Room r (2 ^ 62) → Sound (state r h m d) most
 sound-first r h m d i q =
     record {
       some = i .some;

@@ -398,7 +398,7 @@ module _ (s : State) (budget : ℕ) where
           call-admitted y k = last y (rw (le-ltb 15 budget k))
 
 -- what is known of a call that is not refused
-few-each : (t : Totals) → areFew t ≡ true → (t .pages ≤ most) × (t .skipped ≤ most) × (t .used ≤ most) × (t .unused ≤ most) × (t .subframes ≤ most) × (t .dsms ≤ most)
+pub few-each : (t : Totals) → areFew t ≡ true → (t .pages ≤ most) × (t .skipped ≤ most) × (t .used ≤ most) × (t .unused ≤ most) × (t .subframes ≤ most) × (t .dsms ≤ most)
 unfolding areFew
 few-each t e = go (leb (t .pages) most) (leb (t .skipped) most) (leb (t .used) most) (leb (t .unused) most) (leb (t .subframes) most) (leb (t .dsms) most) refl refl refl refl refl refl e
   where

@@ -1,5 +1,6 @@
 pub mod Dsm
 pub mod Inner
+pub mod Pieces
 pub mod Promises
 pub mod Recovery
 pub mod Replay
