@@ -1,7 +1,15 @@
+pub mod Arguments
+pub mod Decimal
 pub mod Dsm
 pub mod DsmRecovery
 pub mod Edges
+pub mod Lines
+pub mod LinesInner
+pub mod Pieces
 pub mod Promises
+pub mod Replay
+pub mod ReplayInner
+pub mod ReplayPromises
 pub mod Rising
 pub mod Runs
 pub mod Store

@@ -1,5 +1,8 @@
 // The collectors of messages. They see only what `layouts` promises.
+pub mod arguments;
 pub mod dsm;
+pub mod lines;
 pub mod mack_storage;
+pub mod replay;
 pub mod subframe;
 pub mod trace;

@@ -180,7 +180,7 @@ fn refuses(
 }
 
 // The collector at a page of that week and subframe: all counts 0 where either differs.
-fn change(collector: CollectSubframe, week: u16, subframe: u16) -> CollectSubframe
+pub(crate) fn change(collector: CollectSubframe, week: u16, subframe: u16) -> CollectSubframe
     ensures { λ r. ⌜ ((h m : List ℕ) → state r h m ≡ changed (state collector h m) week subframe) ⌝ }
 {
     if collector.week != week {

@@ -1,0 +1,482 @@
+-- Laws of the page replay's steps.
+-- Assumes nothing.
+use Prim.Native.Nat.{ℕ, zero, suc, _+_, _-_, _*_, _/_, _%_, _^_, _≤_, _<_, min}
+use native.Mathlib.Nat.{add-zero, lt-of-lt-of-le}
+use native.Mathlib.Omega.{arith}
+use mathlib.Core.Path.{_≡_, refl, sym, ap, _∙_}
+use mathlib.Core.List.{List, [], _∷_, _++_}
+use mathlib.Core.Bool.{Bool, true, false, cond, not, _&&_}
+use lib.ListN.{length, drop}
+use lib.Pow.{pow-mono}
+use lib.Dec.{leb, ltb, eqb}
+use borrow.Author.Tests.{leb-true, le-leb, lt-leb, le-ltb, lt-ltb, eq-eqb, ne-eqb, eqb-true, ltb-false, not-true, not-false}
+use Rattle.layouts.specs.Answer.{Answer, refused, nothing, gives, Check, _when_, refusal, Copied, copied}
+use Rattle.layouts.specs.Bits.{bit, field, readBits}
+use Rattle.layouts.specs.Meaning.{meaning-number}
+use Rattle.layouts.specs.declared.answer.Number.{Number}
+use Rattle.layouts.specs.declared.answer.Number.the-variants.{Value, Refused}
+use Rattle.layouts.specs.declared.dsm_header.DsmType.{DsmType}
+use Rattle.layouts.specs.declared.dsm_header.DsmType.the-variants.{Kroot, Pkr}
+use Rattle.layouts.proofs.Answers.{pass, done, answer-of, stopped, went-on, none-fails}
+use Rattle.layouts.proofs.Readers.{first-of}
+use Rattle.layouts.proofs.Fields.{field-lt}
+use Rattle.collectors.specs.Replay.{Time, later, Totals, State, new, Begun, begun, Dsm, Run, isCounted, osnma, isUsed, newChecks, replayChecks, subframesIn, dsmsIn, one, fedHkroot, passedOn, skipped, counted, fedPage, fed, pageStep, andThen, areFew, most, Outcome, replay, replayed, pagesOf, consumed}
+use Rattle.collectors.specs.Subframe.{Page, State as Subframes, Fed as SubframesFed, feed as feedPage, small, viewChecks}
+use Rattle.collectors.specs.Dsm.{State as Dsms, Fed as DsmsFed}
+use Rattle.collectors.specs.SubframePromises.{NewSubframe, HkrootMessageRead, meaning-subframe, state as subframeState}
+use Rattle.collectors.specs.Promises.{NewDsm, meaning-dsm, state as dsmState}
+use Rattle.collectors.specs.ReplayPromises.{state, meaning-subframes, meaning-dsms}
+use Rattle.collectors.specs.ReplayInner.{AtMostOne, InRange, Room}
+use Rattle.collectors.specs.declared.subframe.CollectSubframe.{CollectSubframe}
+use Rattle.collectors.specs.declared.subframe.HkrootMessage.{HkrootMessage}
+use Rattle.collectors.specs.declared.subframe.SubframeAnswer.{SubframeAnswer}
+use Rattle.collectors.specs.declared.subframe.SubframeAnswer.the-variants.{Refused as SubframeRefused, Nothing as NoSubframe, Complete as SubframeIs}
+use Rattle.collectors.specs.declared.dsm.CollectDsm.{CollectDsm}
+use Rattle.collectors.specs.declared.replay.PageReplay.{PageReplay}
+use Rattle.collectors.specs.declared.replay.Begun.the-variants.{Refused as NotBegun, Ready}
+use Rattle.collectors.specs.declared.dsm.DsmAnswer.{DsmAnswer}
+use Rattle.collectors.specs.declared.dsm.DsmAnswer.the-variants.{Complete}
+use Rattle.collectors.specs.declared.replay.SubframeDone.{SubframeDone}
+use Rattle.collectors.specs.declared.replay.SubframeDone.the-variants.{None, Subframe}
+use Rattle.collectors.specs.declared.replay.DsmDone.{DsmDone}
+use Rattle.collectors.specs.declared.replay.DsmDone.the-variants.{None as NoDsm, Dsm as DsmIs}
+
+-- Some bits of a page, by the bit reader of `layouts`.
+module _ (m : List ℕ) (s w : ℕ) {x : Number} (e : meaning-number x ≡ readBits m s w) where
+  pub bits-given : {v : ℕ} → x ≡ Value v → v ≡ field m s w
+  bits-given h = first-of (answer-of _ (field m s w ∷ []) (rw h at e))
+
+  pub bits-fit : {v : ℕ} → x ≡ Value v → w ≤ 8 → v < 2 ^ 8
+  bits-fit {v} h k = lt-of-lt-of-le (rw (bits-given h) (field-lt m s w)) (pow-mono k)
+
+  pub bits-refused : {n : ℕ} → x ≡ Refused n → 1 ≤ w → w ≤ 8 → s + w ≤ 8 * length m → 0 ≡ field m s w
+  bits-refused {n} h l u r =
+      let some : gives (field m s w ∷ []) ≡ readBits m s w = pass 7 _ _ _ (ne-eqb w 0 (λ z. omega arith)) (pass 7 _ _ _ (le-ltb 64 w (omega arith)) (pass 5 _ _ _ (le-ltb (8 * length m) (s + w) r) (done _ refl))) in
+      let f : refused n ≡ readBits m s w = rw h at e in
+      let z : _≡_ {A = ℕ} 0 1 = cc in absurd (omega arith)
+
+-- What class a page is.
+pub field-two : (l : List ℕ) (s : ℕ) → field l s 2 ≡ bit l s * 2 + bit l (s + 1)
+unfolding field
+field-two l s = omega (arith, ap (λ (i : ℕ). bit l i) (add-zero s))
+
+bit-lt : (l : List ℕ) (i : ℕ) → bit l i < 2
+unfolding bit
+bit-lt l i = omega arith
+
+no-first : (p q r s : Bool) → (p ≡ true → q ≡ true → ⊥) → false ≡ (p && q && r && s)
+no-first true true r s f = absurd (f refl refl)
+no-first true false r s f = refl
+no-first false q r s f = refl
+
+no-last : (p q r s : Bool) → (r ≡ true → s ≡ true → ⊥) → false ≡ (p && q && r && s)
+no-last true true true true f = absurd (f refl refl)
+no-last true true true false f = refl
+no-last true true false s f = refl
+no-last true false r s f = refl
+no-last false q r s f = refl
+
+module _ (page : List ℕ) {a : ℕ} (e : a ≡ field page 0 2) where
+  pub even-other : (a ≡ 0 → ⊥) → false ≡ isCounted page
+  unfolding isCounted
+  even-other ne = no-first (eqb (bit page 0) 0) (eqb (bit page 1) 0) _ _ (λ p q. ne (omega (arith, field-two page 0, eqb-true (bit page 0) 0 p, eqb-true (bit page 1) 0 q)))
+
+  module _ {b : ℕ} (f : b ≡ field page 120 2) where
+    pub odd-other : (b ≡ 2 → ⊥) → false ≡ isCounted page
+    unfolding isCounted
+    odd-other ne = no-last (eqb (bit page 0) 0) (eqb (bit page 1) 0) (eqb (bit page 120) 1) (eqb (bit page 121) 0) (λ p q. ne (omega (arith, field-two page 120, eqb-true (bit page 120) 1 p, eqb-true (bit page 121) 0 q)))
+
+    pub page-counts : a ≡ 0 → b ≡ 2 → true ≡ isCounted page
+    unfolding isCounted
+    page-counts g h =
+        let b0 : bit page 0 ≡ 0 = omega (arith, field-two page 0) in
+        let b1 : bit page 1 ≡ 0 = omega (arith, field-two page 0) in
+        let b120 : bit page 120 ≡ 1 = omega (arith, field-two page 120, bit-lt page 121) in
+        let b121 : bit page 121 ≡ 0 = omega (arith, field-two page 120, bit-lt page 121) in
+        rw (b0, b1, b120, b121)
+
+-- The refusals of a new replay.
+module _ (satellite week time : ℕ) where
+  pub new-satellite-0 : satellite < 1 → 2 ≡ refusal (newChecks satellite week time)
+  unfolding refusal
+  new-satellite-0 h = rw (lt-ltb satellite 1 h)
+
+  module _ (l : 1 ≤ satellite) where
+    pub new-satellite-high : 36 < satellite → 2 ≡ refusal (newChecks satellite week time)
+    unfolding refusal
+    new-satellite-high h = rw (le-ltb satellite 1 l, lt-ltb 36 satellite h)
+
+    module _ (u : satellite ≤ 36) where
+      pub new-week-high : 4095 < week → 3 ≡ refusal (newChecks satellite week time)
+      unfolding refusal
+      new-week-high h = rw (le-ltb satellite 1 l, le-ltb 36 satellite u, lt-ltb 4095 week h)
+
+      module _ (v : week ≤ 4095) where
+        pub new-time-high : 604799 < time → 4 ≡ refusal (newChecks satellite week time)
+        unfolding refusal
+        new-time-high h = rw (le-ltb satellite 1 l, le-ltb 36 satellite u, le-ltb 4095 week v, lt-ltb 604799 time h)
+
+        pub new-admitted : time ≤ 604799 → 0 ≡ refusal (newChecks satellite week time)
+        unfolding refusal
+        new-admitted h = rw (le-ltb satellite 1 l, le-ltb 36 satellite u, le-ltb 4095 week v, le-ltb 604799 time h)
+
+-- Two seconds later.
+module _ (w t : ℕ) where
+  pub later-in-week : t < 604798 → _≡_ {A = Time} (record { week = w; time = t + 2 }) (later (record { week = w; time = t }))
+  unfolding later
+  later-in-week h = rw (lt-ltb (t + 2) 604800 (omega arith))
+
+  module _ (h : 604798 ≤ t) where
+    pub later-last-week : w ≡ 4095 → _≡_ {A = Time} (record { week = 0; time = t - 604798 }) (later (record { week = w; time = t }))
+    unfolding later
+    later-last-week e =
+        let same : t + 2 - 604800 ≡ t - 604798 = omega arith in
+        rw (le-ltb (t + 2) 604800 (omega arith), eq-eqb w 4095 e, same)
+
+    pub later-next-week : (w ≡ 4095 → ⊥) → _≡_ {A = Time} (record { week = w + 1; time = t - 604798 }) (later (record { week = w; time = t }))
+    unfolding later
+    later-next-week ne =
+        let same : t + 2 - 604800 ≡ t - 604798 = omega arith in
+        rw (le-ltb (t + 2) 604800 (omega arith), ne-eqb w 4095 ne, same)
+
+-- What an answer completes.
+pub subframe-is : {x : SubframeAnswer} {w t : ℕ} → x ≡ SubframeIs w t → meaning-subframes (Subframe w t) ≡ subframesIn (meaning-subframe x)
+subframe-is e = rw e
+
+pub dsm-is : {x : DsmAnswer} (i : ℕ) (k : DsmType) (n : ℕ) → x ≡ Complete i k n → meaning-dsms (DsmIs i n) ≡ dsmsIn (meaning-dsm x)
+dsm-is i Kroot n e = rw e
+dsm-is i Pkr n e = rw e
+
+pub first-subframe : (x y : SubframeDone) {w t : ℕ} → x ≡ Subframe w t → length (meaning-subframes x ++ meaning-subframes y) ≤ 1 → meaning-subframes (Subframe w t) ≡ meaning-subframes x ++ meaning-subframes y
+first-subframe x None e l = rw e
+first-subframe x (Subframe v u) e l = let l : 2 ≤ 1 = rw e at l in absurd (omega arith)
+
+pub first-dsm : (x y : DsmDone) {i n : ℕ} → x ≡ DsmIs i n → length (meaning-dsms x ++ meaning-dsms y) ≤ 1 → meaning-dsms (DsmIs i n) ≡ meaning-dsms x ++ meaning-dsms y
+first-dsm x NoDsm e l = rw e
+first-dsm x (DsmIs j m) e l = let l : 2 ≤ 1 = rw e at l in absurd (omega arith)
+
+pub one-few : (b : Bool) → one b ≤ 1
+one-few true = omega arith
+one-few false = omega arith
+
+pub subframes-few : (x : SubframeDone) → length (meaning-subframes x) ≤ 1
+subframes-few None = omega arith
+subframes-few (Subframe w t) = omega arith
+
+pub dsms-few : (x : DsmDone) → length (meaning-dsms x) ≤ 1
+dsms-few NoDsm = omega arith
+dsms-few (DsmIs i n) = omega arith
+
+-- A new record.
+pub fresh-is : (s w t : ℕ) (a : CollectSubframe) (b : CollectDsm) → NewSubframe a → NewDsm b
+    → state (record { satellite = s; week = w; time = t; subframes = a; dsms = b; pages = 0; skipped = 0; used = 0; unused = 0; «subframes_done» = 0; «dsms_done» = 0 }) [] [] [] ≡ new s w t [] [] []
+fresh-is s w t a b e f = cc
+
+module _ (s w t : ℕ) {q : ℕ} (e : q ≡ refusal (newChecks s w t)) {r : PageReplay} where
+  pub begun-refused : (q ≡ 0 → ⊥) → state r [] [] [] ≡ new 0 0 0 [] [] [] → _≡_ {A = Begun} (record { state = state r [] [] []; answer = refused q }) (begun s w t [] [] [])
+  unfolding begun
+  begun-refused ne f = rw (← e, ne-eqb q 0 ne, f)
+
+  pub begun-ready : q ≡ 0 → state r [] [] [] ≡ new s w t [] [] [] → _≡_ {A = Begun} (record { state = state r [] [] []; answer = gives [] }) (begun s w t [] [] [])
+  unfolding begun
+  begun-ready z f = rw (← e, z, f)
+
+-- A complete HKROOT message feeds the DSM collector.
+module _ {x : SubframeAnswer} (c : CollectSubframe) (h k : List ℕ) (n : ℕ) (d : CollectDsm) (m : List ℕ) where
+  pub passed-refused : {q : ℕ} → x ≡ SubframeRefused q → _≡_ {A = DsmsFed} (record { state = dsmState d m; answer = nothing }) (passedOn (meaning-subframe x) (subframeState c h k) n (dsmState d m))
+  passed-refused e = rw e
+
+  pub passed-nothing : x ≡ NoSubframe → _≡_ {A = DsmsFed} (record { state = dsmState d m; answer = nothing }) (passedOn (meaning-subframe x) (subframeState c h k) n (dsmState d m))
+  passed-nothing e = rw e
+
+  pub passed-hkroot : (y : HkrootMessage) {w t : ℕ} {f : DsmsFed} → x ≡ SubframeIs w t → HkrootMessageRead c h k n y → f ≡ fedHkroot (dsmState d m) (y .bytes)
+      → f ≡ passedOn (meaning-subframe x) (subframeState c h k) n (dsmState d m)
+  passed-hkroot y e p g = rw e (g ∙ ap (λ (z : Copied). fedHkroot (dsmState d m) (z .bytes)) p)
+
+-- A page step.
+module _ (s : State) (page : List ℕ) {b : Bool} (e : b ≡ isCounted page) {r : Run} where
+  pub step-skipped : not b ≡ true → r ≡ skipped s → r ≡ pageStep s page
+  unfolding pageStep
+  step-skipped h g = rw (← e, not-true b h) g
+
+  pub step-counted : not b ≡ false → r ≡ fed s (fedPage s page) → r ≡ pageStep s page
+  unfolding pageStep
+  step-counted h g = rw (← e, not-false b h) g
+
+-- A page that is skipped, and one that counts.
+pub skipped-is : (s : State) {t : Time} → t ≡ later (s .next)
+    → _≡_ {A = Run} (record {
+      state =
+          record {
+            satellite = s .satellite;
+            next = t;
+            subframes = s .subframes;
+            dsms = s .dsms;
+            totals =
+                record {
+                  pages = s .totals .pages + 1;
+                  skipped = s .totals .skipped + 1;
+                  used = s .totals .used;
+                  unused = s .totals .unused;
+                  subframes = s .totals .subframes;
+                  dsms = s .totals .dsms;
+                };
+          };
+      subframes = [];
+      dsms = [];
+    }) (skipped s)
+unfolding skipped
+skipped-is s e = rw e
+
+pub counted-is : (s : State) (u : Bool) (f : SubframesFed) (d : DsmsFed) {t : Time} {xs : List Time} {ys : List Dsm} {a b p q : ℕ}
+    → t ≡ later (s .next) → xs ≡ subframesIn (f .answer) → ys ≡ dsmsIn (d .answer) → a ≡ one u → b ≡ one (not u) → p ≡ length xs → q ≡ length ys
+    → _≡_ {A = Run} (record {
+      state =
+          record {
+            satellite = s .satellite;
+            next = t;
+            subframes = f .state;
+            dsms = d .state;
+            totals =
+                record {
+                  pages = s .totals .pages + 1;
+                  skipped = s .totals .skipped;
+                  used = s .totals .used + a;
+                  unused = s .totals .unused + b;
+                  subframes = s .totals .subframes + p;
+                  dsms = s .totals .dsms + q;
+                };
+          };
+      subframes = xs;
+      dsms = ys;
+    }) (counted s u f d)
+unfolding counted
+counted-is s u f d et ex ey ea eb ep eq = rw (et, ep, eq, ex, ey, ea, eb)
+
+pub fed-is : (s : State) (page : List ℕ) {b : List ℕ} {u : Bool} {f : SubframesFed} {d : DsmsFed} {r : Run}
+    → b ≡ osnma page
+    → u ≡ isUsed (s .subframes) (record { bytes = b; satellite = s .satellite; week = s .next .week; time = s .next .time })
+    → f ≡ feedPage (s .subframes) (record { bytes = b; satellite = s .satellite; week = s .next .week; time = s .next .time })
+    → d ≡ passedOn (f .answer) (f .state) (s .satellite) (s .dsms) → r ≡ counted s u f d → r ≡ fed s (fedPage s page)
+unfolding fed
+fed-is s page {b} {u} {f} {d} eb eu ef ed er =
+    let p : Page = record { bytes = b; satellite = s .satellite; week = s .next .week; time = s .next .time } in
+    er
+    ∙ ap (λ (x : Bool). counted s x f d) eu
+    ∙ ap (λ (x : DsmsFed). counted s (isUsed (s .subframes) p) f x) ed
+    ∙ ap (λ (x : SubframesFed). counted s (isUsed (s .subframes) p) x (passedOn (x .answer) (x .state) (s .satellite) (s .dsms))) ef
+    ∙ ap (λ (x : List ℕ). fed s (record { bytes = x; satellite = s .satellite; week = s .next .week; time = s .next .time })) eb
+
+-- One page more.
+module _ (r : Run) (page : List ℕ) {x : Run} (e : x ≡ pageStep (r .state) page) where
+  pub and-then-is : {xs : List Time} {ys : List Dsm} → xs ≡ r .subframes ++ x .subframes → ys ≡ r .dsms ++ x .dsms → _≡_ {A = Run} (record { state = x .state; subframes = xs; dsms = ys }) (andThen r page)
+  unfolding andThen
+  and-then-is ex ey = rw (ex, ey, e)
+
+  pub subframe-at-most : AtMostOne (andThen r page) → length (r .subframes ++ x .subframes) ≤ 1
+  unfolding andThen
+  subframe-at-most a = rw e (a .subframe-one)
+
+  pub dsm-at-most : AtMostOne (andThen r page) → length (r .dsms ++ x .dsms) ≤ 1
+  unfolding andThen
+  dsm-at-most a = rw e (a .dsm-one)
+
+-- The totals.
+module _ (t : Totals) where
+  pub many-pages : most < t .pages → false ≡ areFew t
+  unfolding areFew
+  many-pages h = rw (lt-leb (t .pages) most h)
+
+  module _ (a : t .pages ≤ most) where
+    pub many-skipped : most < t .skipped → false ≡ areFew t
+    unfolding areFew
+    many-skipped h = rw (le-leb (t .pages) most a, lt-leb (t .skipped) most h)
+
+    module _ (b : t .skipped ≤ most) where
+      pub many-used : most < t .used → false ≡ areFew t
+      unfolding areFew
+      many-used h = rw (le-leb (t .pages) most a, le-leb (t .skipped) most b, lt-leb (t .used) most h)
+
+      module _ (c : t .used ≤ most) where
+        pub many-unused : most < t .unused → false ≡ areFew t
+        unfolding areFew
+        many-unused h = rw (le-leb (t .pages) most a, le-leb (t .skipped) most b, le-leb (t .used) most c, lt-leb (t .unused) most h)
+
+        module _ (d : t .unused ≤ most) where
+          pub many-subframes : most < t .subframes → false ≡ areFew t
+          unfolding areFew
+          many-subframes h = rw (le-leb (t .pages) most a, le-leb (t .skipped) most b, le-leb (t .used) most c, le-leb (t .unused) most d, lt-leb (t .subframes) most h)
+
+          module _ (e : t .subframes ≤ most) where
+            pub many-dsms : most < t .dsms → false ≡ areFew t
+            unfolding areFew
+            many-dsms h = rw (le-leb (t .pages) most a, le-leb (t .skipped) most b, le-leb (t .used) most c, le-leb (t .unused) most d, le-leb (t .subframes) most e, lt-leb (t .dsms) most h)
+
+            pub all-few : t .dsms ≤ most → true ≡ areFew t
+            unfolding areFew
+            all-few h = rw (le-leb (t .pages) most a, le-leb (t .skipped) most b, le-leb (t .used) most c, le-leb (t .unused) most d, le-leb (t .subframes) most e, le-leb (t .dsms) most h)
+
+-- The refusals of a call: the subframe collector's bytes and record, then what is left.
+abbrev rowsOf : Subframes → List Check
+rowsOf s =
+    1 when not (eqb (length (s .hkroot)) 540) ∷
+    1 when not (eqb (length (s .mack)) 2160) ∷
+    12 when ltb 4095 (s .week) ∷
+    12 when ltb 20159 (s .subframe) ∷
+    12 when not (small (s .counts)) ∷
+    []
+
+abbrev placeRows : State → ℕ → List Check
+placeRows s budget =
+    12 when ltb (s .satellite) 1 ∷
+    12 when ltb 36 (s .satellite) ∷
+    12 when ltb 4095 (s .next .week) ∷
+    12 when ltb 604799 (s .next .time) ∷
+    7 when ltb 15 budget ∷
+    []
+
+abbrev othersOf : State → ℕ → List Check
+othersOf s budget = 12 when ltb 15 (s .dsms .id) ∷ 12 when not (areFew (s .totals)) ∷ placeRows s budget
+
+twelve : (a b c d : Bool) (cs : List Check) → (refusal (2 when a ∷ 2 when b ∷ 3 when c ∷ 4 when d ∷ []) ≡ 0 → ⊥) → 12 ≡ refusal (12 when a ∷ 12 when b ∷ 12 when c ∷ 12 when d ∷ cs)
+unfolding refusal
+twelve true b c d cs ne = refl
+twelve false true c d cs ne = refl
+twelve false false true d cs ne = refl
+twelve false false false true cs ne = refl
+twelve false false false false cs ne = absurd (ne refl)
+
+no-twelve : (a b c d : Bool) (cs : List Check) → refusal (2 when a ∷ 2 when b ∷ 3 when c ∷ 4 when d ∷ []) ≡ 0 → refusal (12 when a ∷ 12 when b ∷ 12 when c ∷ 12 when d ∷ cs) ≡ refusal cs
+unfolding refusal
+no-twelve true b c d cs e = absurd (omega arith)
+no-twelve false true c d cs e = absurd (omega arith)
+no-twelve false false true d cs e = absurd (omega arith)
+no-twelve false false false true cs e = absurd (omega arith)
+no-twelve false false false false cs e = refl
+
+module _ (s : State) (budget : ℕ) where
+  pub other-dsm-bytes : (length (s .dsms .memory) ≡ 208 → ⊥) → 1 ≡ refusal (replayChecks s budget)
+  unfolding refusal
+  other-dsm-bytes ne = rw (ne-eqb (length (s .dsms .memory)) 208 ne)
+
+  module _ (l : length (s .dsms .memory) ≡ 208) {q : ℕ} (e : q ≡ refusal (viewChecks (s .subframes) 1)) where
+    pub other-subframes : (q ≡ 0 → ⊥) → q ≡ refusal (replayChecks s budget)
+    unfolding refusal
+    other-subframes ne = rw (eq-eqb (length (s .dsms .memory)) 208 l) (stopped (rowsOf (s .subframes)) (othersOf s budget) e ne)
+
+    module _ (z : q ≡ 0) where
+      behind : {r : ℕ} → r ≡ refusal (othersOf s budget) → r ≡ refusal (replayChecks s budget)
+      unfolding refusal
+      behind h = rw (eq-eqb (length (s .dsms .memory)) 208 l) (went-on (rowsOf (s .subframes)) (othersOf s budget) tt e z h)
+
+      pub other-dsm-id : 15 < s .dsms .id → 12 ≡ refusal (replayChecks s budget)
+      unfolding refusal
+      other-dsm-id h = behind (rw (lt-ltb 15 (s .dsms .id) h))
+
+      module _ (i : s .dsms .id ≤ 15) {b : Bool} (f : b ≡ areFew (s .totals)) where
+        pub other-totals : not b ≡ true → 12 ≡ refusal (replayChecks s budget)
+        unfolding refusal
+        other-totals h = behind (rw (le-ltb 15 (s .dsms .id) i, ← f, h))
+
+        module _ (h : not b ≡ false) {p : ℕ} (g : p ≡ refusal (newChecks (s .satellite) (s .next .week) (s .next .time))) where
+          beyond : {r : ℕ} → r ≡ refusal (placeRows s budget) → r ≡ refusal (replayChecks s budget)
+          unfolding refusal
+          beyond y = behind (rw (le-ltb 15 (s .dsms .id) i, ← f, h) y)
+
+          pub other-place : (p ≡ 0 → ⊥) → 12 ≡ refusal (replayChecks s budget)
+          other-place ne = beyond (twelve (ltb (s .satellite) 1) (ltb 36 (s .satellite)) (ltb 4095 (s .next .week)) (ltb 604799 (s .next .time)) (7 when ltb 15 budget ∷ []) (λ y. ne (g ∙ y)))
+
+          last : {r : ℕ} → p ≡ 0 → r ≡ refusal (7 when ltb 15 budget ∷ []) → r ≡ refusal (replayChecks s budget)
+          last y x = beyond (x ∙ sym (no-twelve (ltb (s .satellite) 1) (ltb 36 (s .satellite)) (ltb 4095 (s .next .week)) (ltb 604799 (s .next .time)) (7 when ltb 15 budget ∷ []) (sym g ∙ y)))
+
+          pub other-budget : p ≡ 0 → 15 < budget → 7 ≡ refusal (replayChecks s budget)
+          unfolding refusal
+          other-budget y k = last y (rw (lt-ltb 15 budget k))
+
+          pub call-admitted : p ≡ 0 → budget ≤ 15 → 0 ≡ refusal (replayChecks s budget)
+          unfolding refusal
+          call-admitted y k = last y (rw (le-ltb 15 budget k))
+
+-- what is known of a call that is not refused
+pub few-each : (t : Totals) → areFew t ≡ true → (t .pages ≤ most) × (t .skipped ≤ most) × (t .used ≤ most) × (t .unused ≤ most) × (t .subframes ≤ most) × (t .dsms ≤ most)
+unfolding areFew
+few-each t e = go (leb (t .pages) most) (leb (t .skipped) most) (leb (t .used) most) (leb (t .unused) most) (leb (t .subframes) most) (leb (t .dsms) most) refl refl refl refl refl refl e
+  where
+    go : (a b c d e f : Bool) → leb (t .pages) most ≡ a → leb (t .skipped) most ≡ b → leb (t .used) most ≡ c → leb (t .unused) most ≡ d → leb (t .subframes) most ≡ e → leb (t .dsms) most ≡ f
+        → (a && b && c && d && e && f) ≡ true
+        → (t .pages ≤ most) × (t .skipped ≤ most) × (t .used ≤ most) × (t .unused ≤ most) × (t .subframes ≤ most) × (t .dsms ≤ most)
+    go true true true true true true pa pb pc pd pe pf h =
+        (leb-true (t .pages) most pa, leb-true (t .skipped) most pb, leb-true (t .used) most pc, leb-true (t .unused) most pd, leb-true (t .subframes) most pe, leb-true (t .dsms) most pf)
+    go true true true true true false pa pb pc pd pe pf h = let z : _≡_ {A = ℕ} 0 1 = cc in absurd (omega arith)
+    go true true true true false f pa pb pc pd pe pf h = let z : _≡_ {A = ℕ} 0 1 = cc in absurd (omega arith)
+    go true true true false e f pa pb pc pd pe pf h = let z : _≡_ {A = ℕ} 0 1 = cc in absurd (omega arith)
+    go true true false d e f pa pb pc pd pe pf h = let z : _≡_ {A = ℕ} 0 1 = cc in absurd (omega arith)
+    go true false c d e f pa pb pc pd pe pf h = let z : _≡_ {A = ℕ} 0 1 = cc in absurd (omega arith)
+    go false b c d e f pa pb pc pd pe pf h = let z : _≡_ {A = ℕ} 0 1 = cc in absurd (omega arith)
+
+-- each check of a call that is not refused passes
+pub record Legal (s : State) (budget : ℕ) : Type 0 where
+  pub d208 : length (s .dsms .memory) ≡ 208
+  pub h540 : length (s .subframes .hkroot) ≡ 540
+  pub m2160 : length (s .subframes .mack) ≡ 2160
+  pub weeks : s .subframes .week ≤ 4095
+  pub subframe-low : s .subframes .subframe ≤ 20159
+  pub counts-small : small (s .subframes .counts) ≡ true
+  pub id-low : s .dsms .id ≤ 15
+  pub totals-few : areFew (s .totals) ≡ true
+  pub some : 1 ≤ s .satellite
+  pub few : s .satellite ≤ 36
+  pub in-weeks : s .next .week ≤ 4095
+  pub in-week : s .next .time ≤ 604799
+  pub budget-15 : budget ≤ 15
+
+pub legal : (s : State) (budget : ℕ) {q : ℕ} → q ≡ refusal (replayChecks s budget) → q ≡ 0 → Legal s budget
+legal s budget e z =
+    let f = none-fails (replayChecks s budget) tt (sym e ∙ z) in
+    record {
+      d208 = eqb-true (length (s .dsms .memory)) 208 (not-false _ (f .0));
+      h540 = eqb-true (length (s .subframes .hkroot)) 540 (not-false _ (f .1 .0));
+      m2160 = eqb-true (length (s .subframes .mack)) 2160 (not-false _ (f .1 .1 .0));
+      weeks = ltb-false 4095 (s .subframes .week) (f .1 .1 .1 .0);
+      subframe-low = ltb-false 20159 (s .subframes .subframe) (f .1 .1 .1 .1 .0);
+      counts-small = not-false _ (f .1 .1 .1 .1 .1 .0);
+      id-low = ltb-false 15 (s .dsms .id) (f .1 .1 .1 .1 .1 .1 .0);
+      totals-few = not-false _ (f .1 .1 .1 .1 .1 .1 .1 .0);
+      some = ltb-false (s .satellite) 1 (f .1 .1 .1 .1 .1 .1 .1 .1 .0);
+      few = ltb-false 36 (s .satellite) (f .1 .1 .1 .1 .1 .1 .1 .1 .1 .0);
+      in-weeks = ltb-false 4095 (s .next .week) (f .1 .1 .1 .1 .1 .1 .1 .1 .1 .1 .0);
+      in-week = ltb-false 604799 (s .next .time) (f .1 .1 .1 .1 .1 .1 .1 .1 .1 .1 .1 .0);
+      budget-15 = ltb-false 15 budget (f .1 .1 .1 .1 .1 .1 .1 .1 .1 .1 .1 .1 .0);
+    }
+
+pub legal-range : (r : PageReplay) (h m d : List ℕ) (budget : ℕ) → Legal (state r h m d) budget → InRange r
+legal-range r h m d budget l = record { some = l .some; few = l .few; in-weeks = l .in-weeks; in-week = l .in-week }
+
+pub legal-room : (r : PageReplay) (h m d : List ℕ) (budget : ℕ) → Legal (state r h m d) budget → Room r (2 ^ 62)
+legal-room r h m d budget l =
+    let f = few-each (state r h m d .totals) (l .totals-few) in
+    record { pages-room = f .0; skipped-room = f .1; used-room = f .2; unused-room = f .3; subframes-room = f .4; dsms-room = f .5 }
+
+pub pages-many : (n : ℕ) (bytes : List ℕ) → length (pagesOf n bytes) ≡ n
+unfolding pagesOf
+pages-many zero bytes = refl
+pages-many (suc n) bytes = ap suc (pages-many n (drop 30 bytes))
+
+-- A call.
+module _ (s : State) (bytes : List ℕ) (budget : ℕ) {q : ℕ} (e : q ≡ refusal (replayChecks s budget)) where
+  pub replay-refused : (q ≡ 0 → ⊥) → _≡_ {A = Outcome} (record { state = s; answer = refused q; subframes = []; dsms = [] }) (replay s bytes budget)
+  unfolding replay
+  replay-refused ne = rw (← e, ne-eqb q 0 ne)
+
+  pub replay-done : {x : Run} {n : ℕ} → q ≡ 0 → n ≡ min budget (length bytes / 30) → x ≡ replayed s (pagesOf n bytes)
+      → _≡_ {A = Outcome} (record { state = x .state; answer = gives (n ∷ []); subframes = x .subframes; dsms = x .dsms }) (replay s bytes budget)
+  unfolding replay
+  replay-done {x} {n} z h g =
+      let whole : replay s bytes budget ≡ ran-to (consumed bytes budget) = rw (← e, z) in
+      ap (λ (y : Run). answering y n) g ∙ ap (answering (replayed s (pagesOf n bytes))) (sym (pages-many n bytes)) ∙ ap (λ (k : ℕ). ran-to (pagesOf k bytes)) h ∙ sym whole
+    where
+      answering : Run → ℕ → Outcome
+      answering y k = record { state = y .state; answer = gives (k ∷ []); subframes = y .subframes; dsms = y .dsms }
+
+      ran-to : List (List ℕ) → Outcome
+      ran-to ps = answering (replayed s ps) (length ps)

@@ -1,0 +1,36 @@
+-- `replay::osnma`: five fields of eight bits.
+-- Assumes nothing.
+use Rattle.collectors.specs.Replay.{osnma}
+use borrow.Author.Needs.{needs}
+use Rattle.collectors.proofs.replay.osnma.Statement.{statement}
+use Rattle.collectors.proofs.replay.osnma.Tie as tie
+
+bits-at-requires : tie.Need-bits-at-requires
+bits-at-requires c κs = search needs
+
+bits-at-requires-2 : tie.Need-bits-at-requires-2
+bits-at-requires-2 c κs = search needs
+
+bits-at-requires-3 : tie.Need-bits-at-requires-3
+bits-at-requires-3 c κs = search needs
+
+bits-at-requires-4 : tie.Need-bits-at-requires-4
+bits-at-requires-4 c κs = search needs
+
+bits-at-requires-5 : tie.Need-bits-at-requires-5
+bits-at-requires-5 c κs = search needs
+
+returns : tie.Need-returns
+unfolding osnma
+returns c = search needs
+
+pub osnma-spec : {M : Type 1} → statement M
+osnma-spec =
+    tie.close
+    (tie.spec
+    bits-at-requires
+    bits-at-requires-2
+    bits-at-requires-3
+    bits-at-requires-4
+    bits-at-requires-5
+    returns)
