@@ -11,12 +11,12 @@ use layouts::answer::Number;
 use layouts::bits;
 ghost use mathlib.Core.Path.{_≡_};
 ghost use mathlib.Core.List.{List, [], _++_};
-ghost use mathlib.Core.Bool.{Bool, true, false};
+ghost use mathlib.Core.Bool.{true, false};
 ghost use Prim.Native.Nat.{ℕ, _+_, _*_, _^_, _≤_, _<_, min};
 ghost use lib.ListN.{length};
 ghost use Rattle.layouts.specs.Answer.{refusal as refusalOf};
 ghost use Rattle.layouts.specs.Bits.{field};
-ghost use Rattle.collectors.specs.Replay.{Time, Run, new as newOf, later as laterOf, isCounted, osnma as osnmaOf, isUsed, fedHkroot, passedOn, subframesIn, dsmsIn, one as oneOf, skipped as skippedOf, counted as countedOf, fed as fedOf, pageStep, andThen, replayed, pagesOf, areFew, newChecks, replayChecks};
+ghost use Rattle.collectors.specs.Replay.{Time, new as newOf, later as laterOf, isCounted, osnma as osnmaOf, isUsed, fedHkroot, passedOn, subframesIn, dsmsIn, one as oneOf, skipped as skippedOf, counted as countedOf, fed as fedOf, pageStep, andThen, replayed, pagesOf, areFew, newChecks, replayChecks};
 ghost use Rattle.collectors.specs.SubframePromises.{outcome as subframeOutcome, meaning-subframe, state as subframeState};
 ghost use Rattle.collectors.specs.Promises.{meaning-dsm, state as dsmState};
 ghost use Rattle.collectors.specs.ReplayPromises.{state, meaning-subframes, meaning-dsms, BeginReplay, ReplayPages};
@@ -354,7 +354,7 @@ fn skip(record: PageReplay) -> Stepped
 }
 
 // A page that counts feeds the subframe collector.
-fn feed(
+fn feed_page(
     record: PageReplay,
     hkroot: &mut [u8],
     mack: &mut [u8],
@@ -390,7 +390,7 @@ fn page_step(
     if !counts(page) {
         return skip(record);
     }
-    feed(record, hkroot, mack, dsm, page)
+    feed_page(record, hkroot, mack, dsm, page)
 }
 
 // Of two that are not both there, the one that is.
@@ -482,7 +482,7 @@ fn run(
 fn totals_few(record: PageReplay) -> bool
     ensures { λ r. ⌜ r ≡ areFew (state «record» [] [] [] .totals) ⌝ }
 {
-    let most: u64 = 4611686018427387904;
+    let most: u64 = 1 << 62;
     if most < record.pages {
         return false;
     }
