@@ -20,7 +20,7 @@ use Rattle.layouts.specs.declared.dsm_header.DsmType.the-variants.{Kroot, Pkr}
 use Rattle.layouts.proofs.Answers.{pass, done, answer-of, stopped, went-on, none-fails}
 use Rattle.layouts.proofs.Readers.{first-of}
 use Rattle.layouts.proofs.Fields.{field-lt}
-use Rattle.collectors.specs.Replay.{Time, later, Totals, State, new, Begun, begun, Dsm, Run, isCounted, osnma, isUsed, newChecks, replayChecks, subframesIn, dsmsIn, one, fedHkroot, passedOn, skipped, counted, fedPage, fed, pageStep, andThen, areFew, most, Outcome, replay, replayed, pagesOf, consumed}
+use Rattle.collectors.specs.Replay.{Time, later, Totals, State, new, Begun, begun, Dsm, Run, isCounted, osnma, isUsed, newChecks, replayChecks, subframesIn, dsmsIn, one, hkrootOf, fedHkroot, passedOn, skipped, counted, fedPage, fed, pageStep, andThen, areFew, most, Outcome, replay, replayed, pagesOf, consumed}
 use Rattle.collectors.specs.Subframe.{Page, State as Subframes, Fed as SubframesFed, feed as feedPage, small, viewChecks}
 use Rattle.collectors.specs.Dsm.{Fed as DsmsFed}
 use Rattle.collectors.specs.SubframePromises.{NewSubframe, HkrootMessageRead, meaning-subframe, state as subframeState}
@@ -194,9 +194,13 @@ module _ {x : SubframeAnswer} (c : CollectSubframe) (h k : List ℕ) (n : ℕ) (
   pub passed-nothing : x ≡ NoSubframe → _≡_ {A = DsmsFed} (record { state = dsmState d m; answer = nothing }) (passedOn (meaning-subframe x) (subframeState c h k) n (dsmState d m))
   passed-nothing e = rw e
 
-  pub passed-hkroot : (y : HkrootMessage) {w t : ℕ} {f : DsmsFed} → x ≡ SubframeIs w t → HkrootMessageRead c h k n y → f ≡ fedHkroot (dsmState d m) (y .bytes)
+  pub passed-hkroot : {w t : ℕ} {f : DsmsFed} → x ≡ SubframeIs w t → f ≡ fedHkroot (dsmState d m) (hkrootOf (subframeState c h k) n)
       → f ≡ passedOn (meaning-subframe x) (subframeState c h k) n (dsmState d m)
-  passed-hkroot y e p g = rw e (g ∙ ap (λ (z : Copied). fedHkroot (dsmState d m) (z .bytes)) p)
+  passed-hkroot e g = rw e g
+
+pub hkroot-fed : (c : CollectSubframe) (h k : List ℕ) (n : ℕ) (d : CollectDsm) (m : List ℕ) (y : HkrootMessage) {f : DsmsFed} → HkrootMessageRead c h k n y
+    → f ≡ fedHkroot (dsmState d m) (y .bytes) → f ≡ fedHkroot (dsmState d m) (hkrootOf (subframeState c h k) n)
+hkroot-fed c h k n d m y p g = g ∙ ap (λ (z : Copied). fedHkroot (dsmState d m) (z .bytes)) p
 
 -- A page step.
 module _ (s : State) (page : List ℕ) {b : Bool} (e : b ≡ isCounted page) {r : Run} where
