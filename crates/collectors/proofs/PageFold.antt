@@ -1,6 +1,6 @@
 -- Laws of the fold of page steps: what fifteen pages can complete, and what stays in range.
 -- Assumes nothing.
-use Prim.Native.Nat.{ℕ, zero, suc, _+_, _-_, _*_, _/_, _%_, _^_, _≤_, _<_}
+use Prim.Native.Nat.{ℕ, zero, suc, _+_, _-_, _*_, _^_, _≤_, _<_}
 use native.Mathlib.Nat.{add-zero}
 use native.Mathlib.Omega.{arith}
 use native.Mathlib.Numerals.{add-one}
@@ -12,9 +12,9 @@ use lib.Seq.{drop-drop}
 use lib.Dec.{ltb, eqb}
 use borrow.Author.Tests.{ltb-true, ltb-false, eqb-true, eqb-false}
 use Rattle.layouts.specs.Answer.{Answer, refused, nothing, gives, refusal}
-use Rattle.collectors.specs.Subframe.{Page, wordOf, State as Subframes, Fed as SubframesFed, feedChecks, answerAt, used, offered, feed as feedPage}
+use Rattle.collectors.specs.Subframe.{Page, wordOf, State as Subframes, Fed as SubframesFed, feedChecks, used, offered, feed as feedPage}
 use Rattle.collectors.specs.Dsm.{State as Dsms}
-use Rattle.collectors.specs.Replay.{Time, Dsm, later, Totals, State, Run, isCounted, subframesIn, dsmsIn, one, isUsed, passedOn, skipped, counted, fedPage, fed, pageStep, andThen, onward, replayed, pagesOf, most}
+use Rattle.collectors.specs.Replay.{Time, later, State, Run, isCounted, subframesIn, dsmsIn, isUsed, passedOn, skipped, counted, fedPage, fed, pageStep, andThen, onward, replayed, pagesOf, most}
 use Rattle.collectors.specs.ReplayPromises.{state}
 use Rattle.collectors.specs.ReplayInner.{ran, AtMostOne, InRange, Room}
 use Rattle.collectors.specs.declared.replay.PageReplay.{PageReplay}

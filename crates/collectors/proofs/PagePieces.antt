@@ -1,22 +1,24 @@
 -- A file that is replayed in pieces: totals, what is completed, and that a call hands back a legal record.
 -- Assumes nothing.
-use Prim.Native.Nat.{ℕ, zero, suc, _+_, _-_, _*_, _/_, _%_, _^_, _≤_, _<_, min}
+use Prim.Native.Nat.{ℕ, zero, suc, _+_, _-_, _*_, _/_, _≤_, _<_, min}
 use native.Mathlib.Nat.{add-zero, zero-add, suc-add}
 use native.Mathlib.Omega.{arith}
 use mathlib.Core.Path.{_≡_, refl, sym, ap, _∙_}
 use mathlib.Core.List.{List, [], _∷_, _++_, append-nil, append-assoc}
 use mathlib.Core.Bool.{Bool, true, false, cond, not, _&&_}
-use lib.ListN.{length, getD, set, take, drop, replicate, length-append, length-take, length-drop, length-set, take-append-drop}
+use lib.ListN.{length, getD, set, take, drop, replicate, length-append, length-drop, length-set, take-append-drop}
 use lib.Seq.{length-take-le, take-append-le, drop-append-le}
 use lib.Dec.{leb, eqb, eqb·suc-zero}
-use borrow.Author.Tests.{leb-true, le-leb, le-ltb, ltb-true, ltb-false, eq-eqb, eqb-true, eqb-false, not-false}
-use Rattle.layouts.specs.Answer.{Answer, refused, nothing, gives, refusal}
+use borrow.Author.Tests.{le-leb, ltb-false}
+use Rattle.layouts.specs.Answer.{Answer, refused, nothing, gives, refusal, copied}
+use Rattle.layouts.specs.Bits.{bit, field}
+use Rattle.layouts.proofs.Answers.{none-fails}
 use Rattle.layouts.specs.DsmHeader.{dsmType}
-use Rattle.collectors.specs.Subframe.{Page, wordOf, subframeOf, small, State as Subframes, Fed as SubframesFed, feedChecks, changed, used, offered, feed as feedPage}
-use Rattle.collectors.specs.Dsm.{State as Dsms, Fed as DsmsFed, idOf, blockOf, feedChecks as blockChecks, begun, put, stored, count, whole, finished, taken, feed as feedBlock}
-use Rattle.collectors.specs.Replay.{Time, Dsm, Totals, State, new, Run, isCounted, subframesIn, dsmsIn, one, isUsed, passedOn, skipped, counted, fedPage, fed, pageStep, andThen, onward, replayed, pagesOf, wholePages, consumed, most, areFew, replayChecks, Outcome, replay, fedHkroot}
-use Rattle.collectors.specs.ReplayInner.{AtMostOne}
-use Rattle.collectors.specs.Pieces.{OneOfEach, AddsUp, TotalsAddUp, PagesAddUp, followedBy, SplitAnywhere, Call, called, calledAll, consumedBytes, BudgetsLegal, plus, Ready, InPieces}
+use Rattle.layouts.specs.Sizes.{krootBlocks}
+use Rattle.collectors.specs.Subframe.{Page, wordOf, subframeOf, small, State as Subframes, Fed as SubframesFed, feedChecks, changed, used, offered, answerAt, feed as feedPage, view as viewPage}
+use Rattle.collectors.specs.Dsm.{State as Dsms, Fed as DsmsFed, idOf, blockOf, feedChecks as blockChecks, begun, put, stored, counted as counted-blocks, allHeld, count, whole, finished, taken, feed as feedBlock}
+use Rattle.collectors.specs.Replay.{Totals, State, new, Run, isCounted, one, isUsed, passedOn, skipped, counted, fedPage, fed, pageStep, andThen, onward, replayed, pagesOf, wholePages, consumed, most, areFew, newChecks, replayChecks, Outcome, fedHkroot, osnma, later}
+use Rattle.collectors.specs.Pieces.{OneOfEach, AddsUp, TotalsAddUp, PagesAddUp, followedBy, SplitAnywhere, Call, called, calledAll, consumedBytes, BudgetsLegal, plus, Ready, InPieces, NewIsReady, UsedIsTaken, Example}
 use Rattle.collectors.proofs.PageFold.{at-most-one, Sound, sound-step}
 use Rattle.collectors.proofs.PageSteps.{pages-many, all-few, few-each, new-admitted, call-admitted, legal, replay-done}
 use Rattle.collectors.proofs.Pages.{seen}
@@ -307,7 +309,7 @@ file-pages (c ∷ cs) tail l =
     let many : length (pagesOf k (c .bytes)) ≡ k = pages-many k (c .bytes) in
     let fits : 30 * k ≤ length (c .bytes) = omega arith in
     let long : length (take (30 * k) (c .bytes)) ≡ 30 * k = length-take-le (30 * k) (c .bytes) fits in
-    let pages : wholePages (take (30 * k) (c .bytes) ++ rest) ≡ k + wholePages rest = rw (length-append, long) (omega arith) in
+    let pages : wholePages (take (30 * k) (c .bytes) ++ rest) ≡ k + wholePages rest = ap (λ (j : ℕ). j / 30) (length-append (take (30 * k) (c .bytes)) rest) ∙ rw long (omega arith) in
     let whole : pagesOf (wholePages (take (30 * k) (c .bytes) ++ rest)) (take (30 * k) (c .bytes) ++ rest) ≡ pagesOf k (c .bytes) ++ allConsumed cs =
     ap (λ (j : ℕ). pagesOf j (take (30 * k) (c .bytes) ++ rest)) pages ∙ pages-join k (wholePages rest) (take (30 * k) (c .bytes)) rest long
     ∙ ap (λ (l : List (List ℕ)). l ++ pagesOf (wholePages rest) rest) (sym (pages-taken k (c .bytes) fits)) ∙ ap (λ (l : List (List ℕ)). pagesOf k (c .bytes) ++ l) (sym (file-pages cs tail l)) in
@@ -345,3 +347,43 @@ in-pieces s file tail cs r b e l =
     let many : length (allConsumed cs) ≡ wholePages file = ap (λ (x : List (List ℕ)). length x) same ∙ pages-many (wholePages file) file in
     let g = good-first s (wholePages file) r in
     calls-are cs (start s) (most - wholePages file) (g .1) (omega (arith, g .0)) b ∙ ap (onward (start s)) same
+
+zeros-small : small (replicate 36 0) ≡ true
+unfolding small
+zeros-small = refl
+
+pub new-is-ready : NewIsReady
+new-is-ready satellite week time n hkroot mack memory e lh lm ld l =
+    let f = none-fails (newChecks satellite week time) tt e in
+    record {
+      not-refused =
+          sym
+          (admitted-call (new satellite week time hkroot mack memory) 0 0
+          (record {
+            sound =
+                record {
+                  some = ltb-false satellite 1 (f .0);
+                  few = ltb-false 36 satellite (f .1 .0);
+                  in-weeks = ltb-false 4095 week (f .1 .1 .0);
+                  in-week = ltb-false 604799 time (f .1 .1 .1 .0);
+                  pages-few = omega arith;
+                  skipped-few = omega arith;
+                  used-few = omega arith;
+                  unused-few = omega arith;
+                  subframes-few = omega arith;
+                  dsms-few = omega arith;
+                };
+            fit = record { h540 = lh; m2160 = lm; weeks = omega arith; subframe-low = omega arith; counts-small = zeros-small };
+            held = record { d208 = ld; id-low = omega arith };
+          }) (omega arith) (omega arith));
+      room =
+          sym (all-few (plus (new satellite week time hkroot mack memory .totals) n) (omega arith) (omega arith) (omega arith) (omega arith) (omega arith) (omega arith));
+    }
+
+pub used-is-taken : UsedIsTaken
+unfolding feedPage offered isUsed
+used-is-taken s p e = rw e
+
+pub example : Example
+unfolding replayed andThen pageStep isCounted skipped fed counted isUsed later osnma fedHkroot bit field refusal small changed used offered answerAt feedPage viewPage copied begun stored counted-blocks allHeld finished taken feedBlock krootBlocks
+example = (refl, refl, refl)

@@ -1,16 +1,16 @@
 -- Laws of the page replay's steps.
 -- Assumes nothing.
-use Prim.Native.Nat.{ℕ, zero, suc, _+_, _-_, _*_, _/_, _%_, _^_, _≤_, _<_, min}
+use Prim.Native.Nat.{ℕ, zero, suc, _+_, _-_, _*_, _/_, _^_, _≤_, _<_, min}
 use native.Mathlib.Nat.{add-zero, lt-of-lt-of-le}
 use native.Mathlib.Omega.{arith}
 use mathlib.Core.Path.{_≡_, refl, sym, ap, _∙_}
 use mathlib.Core.List.{List, [], _∷_, _++_}
-use mathlib.Core.Bool.{Bool, true, false, cond, not, _&&_}
+use mathlib.Core.Bool.{Bool, true, false, not, _&&_}
 use lib.ListN.{length, drop}
 use lib.Pow.{pow-mono}
 use lib.Dec.{leb, ltb, eqb}
 use borrow.Author.Tests.{leb-true, le-leb, lt-leb, le-ltb, lt-ltb, eq-eqb, ne-eqb, eqb-true, ltb-false, not-true, not-false}
-use Rattle.layouts.specs.Answer.{Answer, refused, nothing, gives, Check, _when_, refusal, Copied, copied}
+use Rattle.layouts.specs.Answer.{refused, nothing, gives, Check, _when_, refusal, Copied}
 use Rattle.layouts.specs.Bits.{bit, field, readBits}
 use Rattle.layouts.specs.Meaning.{meaning-number}
 use Rattle.layouts.specs.declared.answer.Number.{Number}
@@ -20,9 +20,9 @@ use Rattle.layouts.specs.declared.dsm_header.DsmType.the-variants.{Kroot, Pkr}
 use Rattle.layouts.proofs.Answers.{pass, done, answer-of, stopped, went-on, none-fails}
 use Rattle.layouts.proofs.Readers.{first-of}
 use Rattle.layouts.proofs.Fields.{field-lt}
-use Rattle.collectors.specs.Replay.{Time, later, Totals, State, new, Begun, begun, Dsm, Run, isCounted, osnma, isUsed, newChecks, replayChecks, subframesIn, dsmsIn, one, fedHkroot, passedOn, skipped, counted, fedPage, fed, pageStep, andThen, areFew, most, Outcome, replay, replayed, pagesOf, consumed}
+use Rattle.collectors.specs.Replay.{Time, later, Totals, State, new, Begun, begun, Dsm, Run, isCounted, osnma, isUsed, newChecks, replayChecks, subframesIn, dsmsIn, one, hkrootOf, fedHkroot, passedOn, skipped, counted, fedPage, fed, pageStep, andThen, areFew, most, Outcome, replay, replayed, pagesOf, consumed}
 use Rattle.collectors.specs.Subframe.{Page, State as Subframes, Fed as SubframesFed, feed as feedPage, small, viewChecks}
-use Rattle.collectors.specs.Dsm.{State as Dsms, Fed as DsmsFed}
+use Rattle.collectors.specs.Dsm.{Fed as DsmsFed}
 use Rattle.collectors.specs.SubframePromises.{NewSubframe, HkrootMessageRead, meaning-subframe, state as subframeState}
 use Rattle.collectors.specs.Promises.{NewDsm, meaning-dsm, state as dsmState}
 use Rattle.collectors.specs.ReplayPromises.{state, meaning-subframes, meaning-dsms}
@@ -33,7 +33,6 @@ use Rattle.collectors.specs.declared.subframe.SubframeAnswer.{SubframeAn
 use Rattle.collectors.specs.declared.subframe.SubframeAnswer.the-variants.{Refused as SubframeRefused, Nothing as NoSubframe, Complete as SubframeIs}
 use Rattle.collectors.specs.declared.dsm.CollectDsm.{CollectDsm}
 use Rattle.collectors.specs.declared.replay.PageReplay.{PageReplay}
-use Rattle.collectors.specs.declared.replay.Begun.the-variants.{Refused as NotBegun, Ready}
 use Rattle.collectors.specs.declared.dsm.DsmAnswer.{DsmAnswer}
 use Rattle.collectors.specs.declared.dsm.DsmAnswer.the-variants.{Complete}
 use Rattle.collectors.specs.declared.replay.SubframeDone.{SubframeDone}
@@ -94,6 +93,12 @@ module _ (page : List ℕ) {a : ℕ} (e : a ≡ field page 0 2) where
         let b120 : bit page 120 ≡ 1 = omega (arith, field-two page 120, bit-lt page 121) in
         let b121 : bit page 121 ≡ 0 = omega (arith, field-two page 120, bit-lt page 121) in
         rw (b0, b1, b120, b121)
+
+-- The OSNMA field.
+pub osnma-is : (page : List ℕ) {a b c d e : ℕ} → a ≡ field page 138 8 → b ≡ field page 146 8 → c ≡ field page 154 8 → d ≡ field page 162 8 → e ≡ field page 170 8
+    → a ∷ b ∷ c ∷ d ∷ e ∷ [] ≡ osnma page
+unfolding osnma
+osnma-is page ea eb ec ed ee = rw (ea, eb, ec, ed, ee)
 
 -- The refusals of a new replay.
 module _ (satellite week time : ℕ) where
@@ -189,9 +194,13 @@ module _ {x : SubframeAnswer} (c : CollectSubframe) (h k : List ℕ) (n : ℕ) (
   pub passed-nothing : x ≡ NoSubframe → _≡_ {A = DsmsFed} (record { state = dsmState d m; answer = nothing }) (passedOn (meaning-subframe x) (subframeState c h k) n (dsmState d m))
   passed-nothing e = rw e
 
-  pub passed-hkroot : (y : HkrootMessage) {w t : ℕ} {f : DsmsFed} → x ≡ SubframeIs w t → HkrootMessageRead c h k n y → f ≡ fedHkroot (dsmState d m) (y .bytes)
+  pub passed-hkroot : {w t : ℕ} {f : DsmsFed} → x ≡ SubframeIs w t → f ≡ fedHkroot (dsmState d m) (hkrootOf (subframeState c h k) n)
       → f ≡ passedOn (meaning-subframe x) (subframeState c h k) n (dsmState d m)
-  passed-hkroot y e p g = rw e (g ∙ ap (λ (z : Copied). fedHkroot (dsmState d m) (z .bytes)) p)
+  passed-hkroot e g = rw e g
+
+pub hkroot-fed : (c : CollectSubframe) (h k : List ℕ) (n : ℕ) (d : CollectDsm) (m : List ℕ) (y : HkrootMessage) {f : DsmsFed} → HkrootMessageRead c h k n y
+    → f ≡ fedHkroot (dsmState d m) (y .bytes) → f ≡ fedHkroot (dsmState d m) (hkrootOf (subframeState c h k) n)
+hkroot-fed c h k n d m y p g = g ∙ ap (λ (z : Copied). fedHkroot (dsmState d m) (z .bytes)) p
 
 -- A page step.
 module _ (s : State) (page : List ℕ) {b : Bool} (e : b ≡ isCounted page) {r : Run} where

@@ -5,7 +5,7 @@ use mathlib.Core.List.{List, [], _∷_}
 use Prim.Native.Nat.{ℕ}
 use Rattle.layouts.specs.Answer.{Answer, refused, nothing, gives}
 use Rattle.collectors.specs.Replay.{State, Time, Dsm, Begun, Outcome}
-use Rattle.collectors.specs.ReplayPromises.{state, meaning-begun, meaning-replay, meaning-subframes, meaning-dsms, outcome, BeginReplay, ReplayPages}
+use Rattle.collectors.specs.ReplayPromises.{meaning-begun, meaning-replay, meaning-subframes, meaning-dsms, outcome, BeginReplay, ReplayPages}
 use Rattle.collectors.specs.declared.replay.PageReplay.{PageReplay}
 use Rattle.collectors.specs.declared.replay.Begun.{Begun as BegunAnswer}
 use Rattle.collectors.specs.declared.replay.Begun.the-variants.{Refused, Ready}

@@ -1,12 +1,13 @@
 -- What is also shown of the page replay, over the fold of page steps and over sequences of calls.
 -- Assumes nothing.
-use Prim.Native.Nat.{ℕ, _+_, _*_, _≤_, _<_}
+use Prim.Native.Nat.{ℕ, _+_, _-_, _*_, _≤_, _<_}
 use mathlib.Core.List.{List, [], _∷_, _++_}
-use mathlib.Core.Bool.{true}
+use mathlib.Core.Bool.{true, cond}
 use mathlib.Core.Path.{_≡_}
-use lib.ListN.{length, take}
-use Rattle.layouts.specs.Answer.{refusal}
-use Rattle.collectors.specs.Replay.{State, Totals, new, Run, replayed, pagesOf, wholePages, consumed, areFew, replayChecks, replay}
+use lib.ListN.{length, take, replicate}
+use Rattle.layouts.specs.Answer.{nothing, refusal}
+use Rattle.collectors.specs.Subframe.{Page, wordOf, subframeOf, State as Subframes, feedChecks, changed, used, feed as feedPage}
+use Rattle.collectors.specs.Replay.{State, Totals, new, Run, replayed, pagesOf, wholePages, consumed, isUsed, most, areFew, newChecks, replayChecks, replay}
 
 -- "A budget above 15 is 7, so a call completes at most one subframe and one DSM": so do fifteen pages, whatever they are, from any record
 abbrev pub OneOfEach : Type 0
@@ -87,3 +88,28 @@ abbrev pub InPieces : Type 0
 InPieces =
     (s : State) (file tail : List ℕ) (cs : List Call) → Ready s (wholePages file) → BudgetsLegal cs → consumedBytes cs ++ tail ≡ file → length tail < 30
     → calledAll (record { state = s; subframes = []; dsms = [] }) cs ≡ replayed s (pagesOf (wholePages file) file)
+
+-- a new record is ready, with lent bytes of any contents
+abbrev pub NewIsReady : Type 0
+NewIsReady =
+    (satellite week time n : ℕ) (hkroot mack memory : List ℕ) → refusal (newChecks satellite week time) ≡ 0 → length hkroot ≡ 540 → length mack ≡ 2160 → length memory ≡ 208 → n ≤ most
+    → Ready (new satellite week time hkroot mack memory) n
+
+-- "If the word differs from the satellite's count: nothing. Otherwise its bytes go to that place and the count rises": the totals call a page used exactly where the collector takes it
+abbrev pub UsedIsTaken : Type 0
+UsedIsTaken =
+    (s : Subframes) (p : Page) → refusal (feedChecks s p) ≡ 0
+    → feedPage s p
+    ≡ cond (isUsed s p) (used (changed s (p .week) (subframeOf (p .time))) (p .bytes) (p .satellite - 1) (wordOf (p .time)))
+    (record { state = changed s (p .week) (subframeOf (p .time)); answer = nothing })
+
+-- "Fifteen good pages with a zero field, satellite 3, week 1200, time 60": `S 3 1200 60`, `pages 15 skipped 0 subframes 1 dsms 0`
+abbrev pub goodPage : List ℕ
+goodPage = replicate 15 0 ++ (128 ∷ replicate 14 0)
+
+abbrev pub Example : Type 0
+Example =
+    (replayed (new 3 1200 60 (replicate 540 0) (replicate 2160 0) (replicate 208 0)) (replicate 15 goodPage) .subframes ≡ record { week = 1200; time = 60 } ∷ [])
+    × (replayed (new 3 1200 60 (replicate 540 0) (replicate 2160 0) (replicate 208 0)) (replicate 15 goodPage) .dsms ≡ [])
+    × (replayed (new 3 1200 60 (replicate 540 0) (replicate 2160 0) (replicate 208 0)) (replicate 15 goodPage) .state .totals
+    ≡ record { pages = 15; skipped = 0; used = 15; unused = 0; subframes = 1; dsms = 0 })

@@ -1,8 +1,7 @@
 -- What private functions of the page replay need and do. No promise of a public function cites this file.
 -- Assumes nothing.
-use Prim.Native.Nat.{ℕ, _*_, _≤_, _<_, _^_}
+use Prim.Native.Nat.{ℕ, _≤_}
 use mathlib.Core.List.{List}
-use mathlib.Core.Path.{_≡_}
 use lib.ListN.{length}
 use Rattle.collectors.specs.Dsm.{Fed}
 use Rattle.collectors.specs.Promises.{meaning-dsm, state as dsmState}

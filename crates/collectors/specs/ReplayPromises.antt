@@ -4,7 +4,7 @@ use Prim.Native.Nat.{ℕ}
 use mathlib.Core.List.{List, [], _∷_}
 use mathlib.Core.Path.{_≡_}
 use Rattle.layouts.specs.Answer.{Answer, refused, gives}
-use Rattle.collectors.specs.Replay.{State, Time, Dsm, Totals, Begun, begun, Outcome, replay}
+use Rattle.collectors.specs.Replay.{State, Time, Dsm, Begun, begun, Outcome, replay}
 use Rattle.collectors.specs.SubframePromises.{state as subframeState}
 use Rattle.collectors.specs.Promises.{state as dsmState}
 use Rattle.collectors.specs.declared.replay.PageReplay.{PageReplay}

@@ -11,12 +11,12 @@ use layouts::answer::Number;
 use layouts::bits;
 ghost use mathlib.Core.Path.{_≡_};
 ghost use mathlib.Core.List.{List, [], _++_};
-ghost use mathlib.Core.Bool.{Bool, true, false};
+ghost use mathlib.Core.Bool.{true, false};
 ghost use Prim.Native.Nat.{ℕ, _+_, _*_, _^_, _≤_, _<_, min};
 ghost use lib.ListN.{length};
 ghost use Rattle.layouts.specs.Answer.{refusal as refusalOf};
 ghost use Rattle.layouts.specs.Bits.{field};
-ghost use Rattle.collectors.specs.Replay.{Time, Run, new as newOf, later as laterOf, isCounted, osnma as osnmaOf, isUsed, fedHkroot, passedOn, subframesIn, dsmsIn, one as oneOf, skipped as skippedOf, counted as countedOf, fed as fedOf, pageStep, andThen, replayed, pagesOf, areFew, newChecks, replayChecks};
+ghost use Rattle.collectors.specs.Replay.{Time, new as newOf, later as laterOf, isCounted, osnma as osnmaOf, isUsed, hkrootOf, fedHkroot, passedOn, subframesIn, dsmsIn, one as oneOf, skipped as skippedOf, counted as countedOf, fed as fedOf, pageStep, andThen, replayed, pagesOf, areFew, newChecks, replayChecks};
 ghost use Rattle.collectors.specs.SubframePromises.{outcome as subframeOutcome, meaning-subframe, state as subframeState};
 ghost use Rattle.collectors.specs.Promises.{meaning-dsm, state as dsmState};
 ghost use Rattle.collectors.specs.ReplayPromises.{state, meaning-subframes, meaning-dsms, BeginReplay, ReplayPages};
@@ -215,14 +215,30 @@ fn is_used(collector: CollectSubframe, satellite: u8, week: u16, time: u32) -> b
     (time / 2 % 15) as u8 == at.counts[i]
 }
 
-// An HKROOT message feeds the DSM collector.
-fn feed_hkroot(dsms: CollectDsm, dsm: &mut [u8], message: [u8; 15]) -> DsmFed
+// An HKROOT message feeds the DSM collector: byte 1 is the DSM header, the block follows it.
+fn feed_message(dsms: CollectDsm, dsm: &mut [u8], message: [u8; 15]) -> DsmFed
     ensures { λ r. ⌜ dsmOutcome r (now (dsm .exit)) ≡ fedHkroot (dsmState dsms (now (dsm .entry))) message ⌝ }
 {
     dsm::feed(dsms, dsm, message[1], &message[2..15])
 }
 
-// The satellite's HKROOT message feeds the DSM collector where it has become complete.
+// So does the satellite's message, handed over whole.
+fn feed_hkroot(
+    collector: CollectSubframe,
+    hkroot: &[u8],
+    mack: &[u8],
+    satellite: u8,
+    dsms: CollectDsm,
+    dsm: &mut [u8],
+) -> DsmFed
+    ensures { λ r. ⌜ dsmOutcome r (now (dsm .exit)) ≡ fedHkroot (dsmState dsms (now (dsm .entry))) (hkrootOf (subframeState collector (now (hkroot .entry)) (now (mack .entry))) satellite) ⌝ }
+{
+    let message = subframe::hkroot_message(collector, hkroot, mack, satellite);
+    let bytes = message.bytes;
+    feed_message(dsms, dsm, bytes)
+}
+
+// The same, where the message has become complete; else nothing.
 fn pass_on(
     fed: SubframeFed,
     hkroot: &[u8],
@@ -245,9 +261,7 @@ fn pass_on(
         },
         SubframeAnswer::Complete { week: _, time: _ } => {
             let collector = fed.collector;
-            let message = subframe::hkroot_message(collector, hkroot, mack, satellite);
-            let bytes = message.bytes;
-            feed_hkroot(dsms, dsm, bytes)
+            feed_hkroot(collector, hkroot, mack, satellite, dsms, dsm)
         }
     }
 }
@@ -354,7 +368,7 @@ fn skip(record: PageReplay) -> Stepped
 }
 
 // A page that counts feeds the subframe collector.
-fn feed(
+fn feed_page(
     record: PageReplay,
     hkroot: &mut [u8],
     mack: &mut [u8],
@@ -390,7 +404,7 @@ fn page_step(
     if !counts(page) {
         return skip(record);
     }
-    feed(record, hkroot, mack, dsm, page)
+    feed_page(record, hkroot, mack, dsm, page)
 }
 
 // Of two that are not both there, the one that is.
@@ -482,7 +496,7 @@ fn run(
 fn totals_few(record: PageReplay) -> bool
     ensures { λ r. ⌜ r ≡ areFew (state «record» [] [] [] .totals) ⌝ }
 {
-    let most: u64 = 4611686018427387904;
+    let most: u64 = 1 << 62;
     if most < record.pages {
         return false;
     }

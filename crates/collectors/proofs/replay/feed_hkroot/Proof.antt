@@ -1,40 +1,22 @@
--- `replay::feed_hkroot`: byte 1 is the DSM header, the block follows it.
+-- `replay::feed_hkroot`: the message as the subframe collector hands it over.
 -- Assumes nothing.
-use Rattle.collectors.specs.Replay.{fedHkroot}
+use Rattle.collectors.proofs.PageSteps.{hkroot-fed}
 use borrow.Author.Needs.{needs}
 use Rattle.collectors.proofs.replay.feed_hkroot.Statement.{statement}
 use Rattle.collectors.proofs.replay.feed_hkroot.Tie as tie
 
-array-read-feed : tie.Need-array-read-feed
-array-read-feed c = search needs
+hkroot-message-requires : tie.Need-hkroot-message-requires
+hkroot-message-requires c κs = search needs
 
-sub-feed : tie.Need-sub-feed
-sub-feed c = search needs
-
-part-feed-start : tie.Need-part-feed-start
-part-feed-start c = search needs
-
-part-feed-end : tie.Need-part-feed-end
-part-feed-end c = search needs
-
-feed-requires : tie.Need-feed-requires
-feed-requires c κs = search needs
+feed-message-requires : tie.Need-feed-message-requires
+feed-message-requires c κs = search needs
 
 same-length : tie.Need-same-length
 same-length c = search needs
 
 returns : tie.Need-returns
-unfolding fedHkroot
-returns c = c .before .before .feed .ensures
+returns c = let a = c .before .before .before .before .before .before .before .before .before .args in hkroot-fed (a .collector) (a .hkroot .now) (a .mack .now) (a .satellite) (a .dsms) (a .dsm .now) (c .before .before .before .before .before .hkroot-message .result) (c .before .before .before .before .before .hkroot-message .ensures) (c .before .before .feed-message .ensures)
 
 pub feed-hkroot-spec : {M : Type 1} → statement M
 feed-hkroot-spec =
-    tie.close
-    (tie.spec
-    array-read-feed
-    sub-feed
-    part-feed-start
-    part-feed-end
-    feed-requires
-    same-length
-    returns)
+    tie.close (tie.spec hkroot-message-requires feed-message-requires same-length returns)

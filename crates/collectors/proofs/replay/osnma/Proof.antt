@@ -1,6 +1,6 @@
 -- `replay::osnma`: five fields of eight bits.
 -- Assumes nothing.
-use Rattle.collectors.specs.Replay.{osnma}
+use Rattle.collectors.proofs.PageSteps.{osnma-is}
 use borrow.Author.Needs.{needs}
 use Rattle.collectors.proofs.replay.osnma.Statement.{statement}
 use Rattle.collectors.proofs.replay.osnma.Tie as tie
@@ -21,8 +21,7 @@ bits-at-requires-5 : tie.Need-bits-at-requires-5
 bits-at-requires-5 c κs = search needs
 
 returns : tie.Need-returns
-unfolding osnma
-returns c = search needs
+returns c = osnma-is (c .before .before .before .before .before .before .args .page .now) (c .before .before .before .before .bits-at .ensures) (c .before .before .before .bits-at2 .ensures) (c .before .before .bits-at3 .ensures) (c .before .bits-at4 .ensures) (c .bits-at5 .ensures)
 
 pub osnma-spec : {M : Type 1} → statement M
 osnma-spec =

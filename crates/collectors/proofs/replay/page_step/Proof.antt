@@ -15,8 +15,8 @@ skip-requires c κs = search needs
 returns : tie.Need-returns
 returns c = let a = c .before .before .before .before .before .before .before .args in step-skipped (state (a .«record») (a .hkroot .now) (a .mack .now) (a .dsm .now)) (a .page .now) (c .before .before .counts .ensures) (c .before .if1 .taken) (c .skip .ensures (a .hkroot .now) (a .mack .now) (a .dsm .now))
 
-feed-requires : tie.Need-feed-requires
-feed-requires c κs = search needs
+feed-page-requires : tie.Need-feed-page-requires
+feed-page-requires c κs = search needs
 
 same-length : tie.Need-same-length
 same-length c = search needs
@@ -28,7 +28,7 @@ same-length-3 : tie.Need-same-length-3
 same-length-3 c = search needs
 
 returns-2 : tie.Need-returns-2
-returns-2 c = let a = c .before .before .before .before .before .before .before .before .before .before .before .before .before .before .before .before .args in step-counted (state (a .«record») (a .hkroot .now) (a .mack .now) (a .dsm .now)) (a .page .now) (c .before .before .before .before .before .before .before .before .before .before .before .counts .ensures) (c .before .before .before .before .before .before .before .before .before .before .if1 .left) (c .before .before .before .before .before .before .feed .ensures)
+returns-2 c = let a = c .before .before .before .before .before .before .before .before .before .before .before .before .before .before .before .before .args in step-counted (state (a .«record») (a .hkroot .now) (a .mack .now) (a .dsm .now)) (a .page .now) (c .before .before .before .before .before .before .before .before .before .before .before .counts .ensures) (c .before .before .before .before .before .before .before .before .before .before .if1 .left) (c .before .before .before .before .before .before .feed-page .ensures)
 
 pub page-step-spec : {M : Type 1} → statement M
 page-step-spec =
@@ -37,7 +37,7 @@ page-step-spec =
     counts-requires
     skip-requires
     returns
-    feed-requires
+    feed-page-requires
     same-length
     same-length-2
     same-length-3

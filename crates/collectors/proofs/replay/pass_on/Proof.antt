@@ -14,9 +14,6 @@ enum-told-2 c = search needs
 enum-told-3 : tie.Need-enum-told-3
 enum-told-3 c = search needs
 
-hkroot-message-requires : tie.Need-hkroot-message-requires
-hkroot-message-requires c κs = search needs
-
 feed-hkroot-requires : tie.Need-feed-hkroot-requires
 feed-hkroot-requires c κs = search needs
 
@@ -39,7 +36,6 @@ pass-on-spec =
     enum-told
     enum-told-2
     enum-told-3
-    hkroot-message-requires
     feed-hkroot-requires
     returns
     returns-2

@@ -1,10 +1,10 @@
--- `replay::feed`: a page step of the definition, one function for each part.
+-- `replay::feed_page`: a page step of the definition, one function for each part.
 -- Assumes nothing.
 use Rattle.collectors.specs.ReplayPromises.{state}
 use Rattle.collectors.proofs.PageSteps.{fed-is}
 use borrow.Author.Needs.{needs}
-use Rattle.collectors.proofs.replay.feed.Statement.{statement}
-use Rattle.collectors.proofs.replay.feed.Tie as tie
+use Rattle.collectors.proofs.replay.feed_page.Statement.{statement}
+use Rattle.collectors.proofs.replay.feed_page.Tie as tie
 
 is-used-requires : tie.Need-is-used-requires
 is-used-requires c κs = search needs
@@ -36,8 +36,8 @@ same-length-3 c = search needs
 returns : tie.Need-returns
 returns c = let a = c .before .before .before .before .before .before .before .before .before .before .before .before .before .before .before .before .before .before .before .before .before .before .before .args in fed-is (state (a .«record») (a .hkroot .now) (a .mack .now) (a .dsm .now)) (a .page .now) (c .before .before .before .before .before .before .before .before .before .before .before .before .before .before .before .osnma .ensures) (c .before .before .before .before .before .before .before .before .before .before .before .before .before .before .before .before .is-used .ensures (a .hkroot .now) (a .mack .now) (c .before .before .before .before .before .before .before .before .before .before .before .before .before .before .before .osnma .result)) (c .before .before .before .before .before .before .before .before .before .before .before .feed .ensures) (c .before .before .before .pass-on .ensures) (c .tally .ensures _ _ _ (a .hkroot .now) (a .mack .now) (a .dsm .now))
 
-pub feed-spec : {M : Type 1} → statement M
-feed-spec =
+pub feed-page-spec : {M : Type 1} → statement M
+feed-page-spec =
     tie.close
     (tie.spec
     is-used-requires
