@@ -23,7 +23,7 @@ use Rattle.collectors.proofs.PageFold.{at-most-one, Sound, sound-step}
 use Rattle.collectors.proofs.PageSteps.{pages-many, all-few, few-each, new-admitted, call-admitted, legal, replay-done}
 use Rattle.collectors.proofs.Pages.{seen}
 use Rattle.collectors.proofs.Blocks.{header-id, header-block, admitted-then}
-use Rattle.collectors.proofs.Recovery.{put-long}
+use Rattle.collectors.proofs.DsmRun.{put-long}
 
 pub one-of-each : OneOfEach
 one-of-each s pages h = let q = at-most-one s pages h in (q .subframe-one, q .dsm-one)
