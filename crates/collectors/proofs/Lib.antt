@@ -2,9 +2,12 @@ pub mod Basics
 pub mod Blocks
 pub mod DsmRecovery
 pub mod DsmRun
+pub mod DsmViewUnique
 pub mod Edges
 pub mod Entries
+pub mod Kept
 pub mod Pages
+pub mod Passed
 pub mod Rising
 pub mod Runs
 pub mod SubframeRecovery

@@ -1,5 +1,6 @@
 pub mod Dsm
 pub mod DsmRecovery
+pub mod DsmView
 pub mod Edges
 pub mod Inner
 pub mod Promises
