@@ -15,7 +15,8 @@ use Rattle.layouts.specs.Meaning.{meaning-type}
 use Rattle.layouts.specs.declared.dsm_header.DsmType.{DsmType}
 use Rattle.collectors.specs.Dsm.{State, count, view}
 use Rattle.collectors.specs.Promises.{state, meaning-dsm, meaning-shown, FeedDsm}
-use Rattle.collectors.specs.DsmView.{Kept, whereShown, shownId, shownType, kept, ToldApart, namedBy, told, FeedInPlace}
+use Rattle.collectors.specs.DsmView.{Kept, whereShown, shownId, shownType, kept, ToldApart, namedBy, FeedInPlace}
+use Rattle.collectors.specs.Inner.{told}
 use Rattle.collectors.specs.declared.dsm.CollectDsm.{CollectDsm}
 use Rattle.collectors.specs.declared.dsm.DsmAnswer.{DsmAnswer}
 use Rattle.collectors.specs.declared.dsm.DsmAnswer.the-variants.{Refused, Nothing, Complete}

@@ -13,9 +13,6 @@ use Rattle.collectors.specs.Dsm.{State, count, view}
 use Rattle.collectors.specs.Promises.{state, meaning-dsm, FeedDsm}
 use Rattle.collectors.specs.declared.dsm.CollectDsm.{CollectDsm}
 use Rattle.collectors.specs.declared.dsm.DsmAnswer.{DsmAnswer}
-use Rattle.collectors.specs.declared.dsm.DsmAnswer.the-variants.{Refused, Nothing, Complete}
-use Rattle.collectors.specs.declared.dsm.DsmShown.{DsmShown}
-use Rattle.collectors.specs.declared.dsm.DsmShown.the-variants.{Shown, Nothing as NothingShown, Refused as NotShown}
 use Rattle.collectors.specs.declared.dsm_view.Dsm.{Dsm}
 
 -- "The view keeps the caller's slice beside its ID.": the ID, the type and the bytes that are shown
@@ -75,9 +72,3 @@ ViewAnswer c memory r = meaning-dsm r ≡ namedBy (state c memory) (view (state 
 -- "The collector's small record is also offered changed in place.": the promise of `feed`, with the record behind the reference at exit
 abbrev pub FeedInPlace : CollectDsm → List ℕ → ℕ → List ℕ → DsmAnswer → CollectDsm → List ℕ → Type 0
 FeedInPlace c memory header block r next after = FeedDsm c memory header block (record { collector = next; answer = r }) after
-
--- of a private function: the question's answer, with what the struct holds
-abbrev pub told : ℕ → DsmType → List ℕ → DsmShown → DsmAnswer
-told i t bytes (NotShown n) = Refused n
-told i t bytes NothingShown = Nothing
-told i t bytes (Shown n) = Complete i t (length bytes)

@@ -4,11 +4,16 @@ use Prim.Native.Nat.{ℕ, _+_, _-_, _*_, _≤_}
 use mathlib.Core.Path.{_≡_}
 use mathlib.Core.List.{List, [], _∷_}
 use mathlib.Core.Bool.{Bool, true, false, cond}
-use lib.ListN.{getD}
+use lib.ListN.{getD, length}
 use lib.Dec.{ltb, eqb}
 use Rattle.layouts.specs.Answer.{Answer, refused, nothing, gives, Check, _when_}
 use Rattle.collectors.specs.Subframe.{State, Page, Fed, wordOf, subframeOf, changed, offered, feed}
 use Rattle.collectors.specs.Trace.{FedMany}
+use Rattle.layouts.specs.declared.dsm_header.DsmType.{DsmType}
+use Rattle.collectors.specs.declared.dsm.DsmAnswer.{DsmAnswer}
+use Rattle.collectors.specs.declared.dsm.DsmAnswer.the-variants.{Refused as DsmRefused, Nothing as NoDsm, Complete}
+use Rattle.collectors.specs.declared.dsm.DsmShown.{DsmShown}
+use Rattle.collectors.specs.declared.dsm.DsmShown.the-variants.{Shown as BytesShown, Nothing as NoneShown, Refused as NotShown}
 use Rattle.collectors.specs.declared.subframe.SubframeShown.{SubframeShown}
 use Rattle.collectors.specs.declared.subframe.SubframeShown.the-variants.{Shown, Nothing, Refused}
 use Rattle.collectors.specs.declared.trace.Entry.{Entry}
@@ -70,3 +75,9 @@ endsWith n q = cond (eqb n 0) (refused q) nothing
 -- an outcome from its parts
 abbrev pub fedOf : ℕ → ℕ → List ℕ → Answer → ℕ → List ℕ → List ℕ → FedMany
 fedOf week subframe counts answer consumed hkroot mack = record { state = stateOf week subframe counts hkroot mack; answer = answer; consumed = consumed }
+
+-- the question's answer beside a `Dsm`, with what that holds
+abbrev pub told : ℕ → DsmType → List ℕ → DsmShown → DsmAnswer
+told i t bytes (NotShown n) = DsmRefused n
+told i t bytes NoneShown = NoDsm
+told i t bytes (BytesShown n) = Complete i t (length bytes)

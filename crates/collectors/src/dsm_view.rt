@@ -7,9 +7,9 @@ use crate::dsm::DsmShown;
 use layouts::dsm_header::DsmType;
 ghost use mathlib.Core.Path.{_≡_};
 ghost use Rattle.layouts.specs.Meaning.{meaning-type};
-ghost use Rattle.collectors.specs.Dsm.{view};
 ghost use Rattle.collectors.specs.Promises.{state};
-ghost use Rattle.collectors.specs.DsmView.{shownId, shownType, told, ViewKept, IdKept, TypeKept, DataKept, ViewAnswer};
+ghost use Rattle.collectors.specs.DsmView.{shownId, shownType, ViewKept, IdKept, TypeKept, DataKept, ViewAnswer};
+ghost use Rattle.collectors.specs.Inner.{told};
 
 pub struct Dsm<'a> {
     pub id: u8,
@@ -60,6 +60,16 @@ fn shown_type(collector: CollectDsm, dsm: &[u8]) -> DsmType
     DsmType::Pkr
 }
 
+// The DSM that is shown, with the caller's slice: ID 0, the first type and no byte where `dsm::view_shown` shows nothing or refuses.
+pub fn view_dsm<'a>(collector: CollectDsm, dsm: &'a [u8]) -> Dsm<'a>
+    ensures { λ r. ⌜ ViewKept collector (now (dsm .entry)) r ⌝ }
+{
+    let id = shown_id(collector, dsm);
+    let dsm_type = shown_type(collector, dsm);
+    let data = dsm::view(collector, dsm);
+    Dsm { id, dsm_type, data }
+}
+
 // The answer of the question, with what the struct holds.
 fn told_of(id: u8, dsm_type: DsmType, data: &[u8], shown: DsmShown) -> DsmAnswer
     ensures { λ r. ⌜ r ≡ told id «dsm_type» (now («data» .entry)) shown ⌝ }
@@ -73,16 +83,6 @@ fn told_of(id: u8, dsm_type: DsmType, data: &[u8], shown: DsmShown) -> DsmAnswer
             bytes: data.len(),
         },
     }
-}
-
-// The DSM that is shown, with the caller's slice: ID 0, the first type and no byte where `dsm::view_shown` shows nothing or refuses.
-pub fn view_dsm<'a>(collector: CollectDsm, dsm: &'a [u8]) -> Dsm<'a>
-    ensures { λ r. ⌜ ViewKept collector (now (dsm .entry)) r ⌝ }
-{
-    let id = shown_id(collector, dsm);
-    let dsm_type = shown_type(collector, dsm);
-    let data = dsm::view(collector, dsm);
-    Dsm { id, dsm_type, data }
 }
 
 // Which DSM is shown and how many of the lent bytes are its own: 1 for other than 208 bytes, then 12.

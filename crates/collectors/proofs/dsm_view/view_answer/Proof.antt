@@ -47,7 +47,8 @@ use Rattle.layouts.specs.declared.dsm_header.DsmType.{DsmType}
 use Rattle.layouts.proofs.dsm_header.DsmType as Y
 use Rattle.layouts.proofs.dsm_header.DsmType.Laws as Y′
 use Rattle.collectors.specs.Promises.{ViewDsmShown}
-use Rattle.collectors.specs.DsmView.{told, ViewKept, ViewAnswer}
+use Rattle.collectors.specs.DsmView.{ViewKept, ViewAnswer}
+use Rattle.collectors.specs.Inner.{told}
 use Rattle.collectors.specs.declared.dsm.CollectDsm.{CollectDsm}
 use Rattle.collectors.specs.declared.dsm.DsmAnswer.{DsmAnswer}
 use Rattle.collectors.specs.declared.dsm.DsmShown.{DsmShown}
