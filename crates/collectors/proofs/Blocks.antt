@@ -247,7 +247,7 @@ module _ (s : State) where
         view-given ne = rw (eq-eqb (length (s .memory)) 208 e, le-ltb 15 (s .id) h, not-false (s .done) f, ← g, ne-eqb n 0 ne)
 
 -- what is shown lies in the memory
-view-fits : (s : State) {n : ℕ} → gives (0 ∷ n ∷ []) ≡ view s → n ≤ length (s .memory)
+pub view-fits : (s : State) {n : ℕ} → gives (0 ∷ n ∷ []) ≡ view s → n ≤ length (s .memory)
 unfolding view refusal
 view-fits s e = go (eqb (length (s .memory)) 208) (ltb 15 (s .id)) (s .done) (eqb (counted (dsmType (s .id)) (s .memory)) 0) refl e
   where

@@ -4,12 +4,15 @@ pub mod Bytes
 pub mod Decimals
 pub mod DsmRecovery
 pub mod DsmRun
+pub mod DsmViewUnique
 pub mod Edges
 pub mod Entries
+pub mod Kept
 pub mod PageFold
 pub mod PagePieces
 pub mod PageSteps
 pub mod Pages
+pub mod Passed
 pub mod ReadArguments
 pub mod ReplayUnique
 pub mod Rising

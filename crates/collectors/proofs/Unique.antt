@@ -18,10 +18,10 @@ use Rattle.collectors.specs.declared.dsm.DsmShown.{DsmShown}
 use Rattle.collectors.specs.declared.dsm.DsmShown.the-variants.{Shown, Nothing as NothingShown, Refused as NotShown}
 
 -- `back` undoes each `meaning`
-abbrev type-back : ℕ → DsmType
+abbrev pub type-back : ℕ → DsmType
 type-back t = cond (eqb t 0) Kroot Pkr
 
-abbrev back-dsm : Answer → DsmAnswer
+abbrev pub back-dsm : Answer → DsmAnswer
 back-dsm (refused n) = Refused n
 back-dsm nothing = Nothing
 back-dsm (gives []) = Nothing
@@ -29,7 +29,7 @@ back-dsm (gives (i ∷ [])) = Nothing
 back-dsm (gives (i ∷ t ∷ [])) = Nothing
 back-dsm (gives (i ∷ t ∷ n ∷ l)) = Complete i (type-back t) n
 
-undo-dsm : (r : DsmAnswer) → back-dsm (meaning-dsm r) ≡ r
+pub undo-dsm : (r : DsmAnswer) → back-dsm (meaning-dsm r) ≡ r
 undo-dsm (Refused n) = refl
 undo-dsm Nothing = refl
 undo-dsm (Complete i Kroot n) = refl

@@ -2,6 +2,8 @@ pub mod Arguments
 pub mod Decimal
 pub mod Dsm
 pub mod DsmRecovery
+pub mod DsmView
+pub mod DsmViewInner
 pub mod Edges
 pub mod Lines
 pub mod LinesInner

@@ -1,6 +1,8 @@
 // The collectors of messages. They see only what `layouts` promises.
 pub mod arguments;
 pub mod dsm;
+pub mod dsm_in_place;
+pub mod dsm_view;
 pub mod lines;
 pub mod mack_storage;
 pub mod replay;
