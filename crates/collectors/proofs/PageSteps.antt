@@ -186,6 +186,20 @@ module _ (s w t : ℕ) {q : ℕ} (e : q ≡ refusal (newChecks s w t)) {r : Page
   unfolding begun
   begun-ready z f = rw (← e, z, f)
 
+-- with any lent bytes
+pub with-memory : (s w t : ℕ) (r : PageReplay) (h m d : List ℕ) → state r [] [] [] ≡ new s w t [] [] [] → state r h m d ≡ new s w t h m d
+with-memory s w t r h m d e = ap lent e
+  where
+    lent : State → State
+    lent x =
+        record {
+          satellite = x .satellite;
+          next = x .next;
+          subframes = record { week = x .subframes .week; subframe = x .subframes .subframe; counts = x .subframes .counts; hkroot = h; mack = m };
+          dsms = record { id = x .dsms .id; came = x .dsms .came; held = x .dsms .held; done = x .dsms .done; memory = d };
+          totals = x .totals;
+        }
+
 -- A complete HKROOT message feeds the DSM collector.
 module _ {x : SubframeAnswer} (c : CollectSubframe) (h k : List ℕ) (n : ℕ) (d : CollectDsm) (m : List ℕ) where
   pub passed-refused : {q : ℕ} → x ≡ SubframeRefused q → _≡_ {A = DsmsFed} (record { state = dsmState d m; answer = nothing }) (passedOn (meaning-subframe x) (subframeState c h k) n (dsmState d m))

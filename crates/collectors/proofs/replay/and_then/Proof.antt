@@ -10,10 +10,10 @@ page-step-requires : tie.Need-page-step-requires
 page-step-requires c κs = search needs
 
 either-subframe-requires : tie.Need-either-subframe-requires
-either-subframe-requires c κs = let a = c .before .before .before .before .before .before .before .before .before .before .before .before .before .before .before .before .args in subframe-at-most (ran (a .so-far) (a .hkroot .now) (a .mack .now) (a .dsm .now)) (a .page .now) (c .before .before .before .before .before .before .before .page-step .ensures) (c .before .before .before .before .before .before .before .before .before .before .before .before .before .before .before .before .pre .1)
+either-subframe-requires c κs = let a = c .before .before .before .before .before .before .before .before .before .before .before .before .before .before .before .before .args in let p = c .before .before .before .before .before .before .before .page-step in subframe-at-most (ran (a .so-far) (a .hkroot .now) (a .mack .now) (a .dsm .now)) (a .page .now) {x = ran (p .result) (p .last .1 .0) (p .last .1 .1 .0) (p .last .1 .1 .1 .0)} (p .ensures) (c .before .before .before .before .before .before .before .before .before .before .before .before .before .before .before .before .pre .1)
 
 either-dsm-requires : tie.Need-either-dsm-requires
-either-dsm-requires c κs = let a = c .before .before .before .before .before .before .before .before .before .before .before .before .before .before .before .before .before .args in dsm-at-most (ran (a .so-far) (a .hkroot .now) (a .mack .now) (a .dsm .now)) (a .page .now) (c .before .before .before .before .before .before .before .before .page-step .ensures) (c .before .before .before .before .before .before .before .before .before .before .before .before .before .before .before .before .before .pre .1)
+either-dsm-requires c κs = let a = c .before .before .before .before .before .before .before .before .before .before .before .before .before .before .before .before .before .args in let p = c .before .before .before .before .before .before .before .before .page-step in dsm-at-most (ran (a .so-far) (a .hkroot .now) (a .mack .now) (a .dsm .now)) (a .page .now) {x = ran (p .result) (p .last .1 .0) (p .last .1 .1 .0) (p .last .1 .1 .1 .0)} (p .ensures) (c .before .before .before .before .before .before .before .before .before .before .before .before .before .before .before .before .before .pre .1)
 
 same-length : tie.Need-same-length
 same-length c = search needs
@@ -25,7 +25,7 @@ same-length-3 : tie.Need-same-length-3
 same-length-3 c = search needs
 
 returns : tie.Need-returns
-returns c = let a = c .before .before .before .before .before .before .before .before .before .before .before .before .before .before .before .before .before .before .args in and-then-is (ran (a .so-far) (a .hkroot .now) (a .mack .now) (a .dsm .now)) (a .page .now) (c .before .before .before .before .before .before .before .before .before .page-step .ensures) (c .before .either-subframe .ensures) (c .either-dsm .ensures)
+returns c = let a = c .before .before .before .before .before .before .before .before .before .before .before .before .before .before .before .before .before .before .args in let p = c .before .before .before .before .before .before .before .before .before .page-step in and-then-is (ran (a .so-far) (a .hkroot .now) (a .mack .now) (a .dsm .now)) (a .page .now) {x = ran (p .result) (p .last .1 .0) (p .last .1 .1 .0) (p .last .1 .1 .1 .0)} (p .ensures) (c .before .either-subframe .ensures) (c .either-dsm .ensures)
 
 pub and-then-spec : {M : Type 1} → statement M
 and-then-spec =

@@ -1,5 +1,6 @@
 -- `replay::feed_page`: a page step of the definition, one function for each part.
 -- Assumes nothing.
+use Rattle.collectors.specs.SubframePromises.{outcome}
 use Rattle.collectors.specs.ReplayPromises.{state}
 use Rattle.collectors.proofs.PageSteps.{fed-is}
 use borrow.Author.Needs.{needs}
@@ -34,7 +35,7 @@ same-length-3 : tie.Need-same-length-3
 same-length-3 c = search needs
 
 returns : tie.Need-returns
-returns c = let a = c .before .before .before .before .before .before .before .before .before .before .before .before .before .before .before .before .before .before .before .before .before .before .before .args in fed-is (state (a .«record») (a .hkroot .now) (a .mack .now) (a .dsm .now)) (a .page .now) (c .before .before .before .before .before .before .before .before .before .before .before .before .before .before .before .osnma .ensures) (c .before .before .before .before .before .before .before .before .before .before .before .before .before .before .before .before .is-used .ensures (a .hkroot .now) (a .mack .now) (c .before .before .before .before .before .before .before .before .before .before .before .before .before .before .before .osnma .result)) (c .before .before .before .before .before .before .before .before .before .before .before .feed .ensures) (c .before .before .before .pass-on .ensures) (c .tally .ensures _ _ _ (a .hkroot .now) (a .mack .now) (a .dsm .now))
+returns c = let a = c .before .before .before .before .before .before .before .before .before .before .before .before .before .before .before .before .before .before .before .before .before .before .before .args in let p = c .before .before .before .before .before .before .before .before .before .before .before .feed in fed-is (state (a .«record») (a .hkroot .now) (a .mack .now) (a .dsm .now)) (a .page .now) {f = outcome (p .result) (p .last .1 .0) (p .last .1 .1 .0)} (c .before .before .before .before .before .before .before .before .before .before .before .before .before .before .before .osnma .ensures) (c .before .before .before .before .before .before .before .before .before .before .before .before .before .before .before .before .is-used .ensures (a .hkroot .now) (a .mack .now) (c .before .before .before .before .before .before .before .before .before .before .before .before .before .before .before .osnma .result)) (p .ensures) (c .before .before .before .pass-on .ensures) (c .tally .ensures _ _ _ (a .hkroot .now) (a .mack .now) (a .dsm .now))
 
 pub feed-page-spec : {M : Type 1} → statement M
 feed-page-spec =

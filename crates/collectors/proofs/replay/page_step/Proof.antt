@@ -1,5 +1,6 @@
 -- `replay::page_step`: skipped, or fed to the collectors.
 -- Assumes nothing.
+use Rattle.collectors.specs.ReplayInner.{ran}
 use Rattle.collectors.specs.ReplayPromises.{state}
 use Rattle.collectors.proofs.PageSteps.{step-skipped, step-counted}
 use borrow.Author.Needs.{needs}
@@ -28,7 +29,7 @@ same-length-3 : tie.Need-same-length-3
 same-length-3 c = search needs
 
 returns-2 : tie.Need-returns-2
-returns-2 c = let a = c .before .before .before .before .before .before .before .before .before .before .before .before .before .before .before .before .args in step-counted (state (a .«record») (a .hkroot .now) (a .mack .now) (a .dsm .now)) (a .page .now) (c .before .before .before .before .before .before .before .before .before .before .before .counts .ensures) (c .before .before .before .before .before .before .before .before .before .before .if1 .left) (c .before .before .before .before .before .before .feed-page .ensures)
+returns-2 c = let a = c .before .before .before .before .before .before .before .before .before .before .before .before .before .before .before .before .args in let p = c .before .before .before .before .before .before .feed-page in step-counted (state (a .«record») (a .hkroot .now) (a .mack .now) (a .dsm .now)) (a .page .now) (c .before .before .before .before .before .before .before .before .before .before .before .counts .ensures) {r = ran (p .result) (p .last .1 .0) (p .last .1 .1 .0) (p .last .1 .1 .1 .0)} (c .before .before .before .before .before .before .before .before .before .before .if1 .left) (p .ensures)
 
 pub page-step-spec : {M : Type 1} → statement M
 page-step-spec =

@@ -1,5 +1,6 @@
 -- `replay::replay`: the refusals, then the pages.
 -- Assumes nothing.
+use Rattle.collectors.specs.ReplayInner.{ran}
 use native.Mathlib.Omega.{arith}
 use Rattle.collectors.specs.ReplayPromises.{state}
 use Rattle.collectors.proofs.PageSteps.{legal, legal-range, legal-room, replay-refused, replay-done}
@@ -38,7 +39,7 @@ same-length-6 : tie.Need-same-length-6
 same-length-6 c = search needs
 
 returns-2 : tie.Need-returns-2
-returns-2 c = let a = c .before .before .before .before .before .before .before .before .before .before .before .before .before .before .before .before .before .before .before .before .before .args in replay-done (state (a .«record») (a .hkroot .now) (a .mack .now) (a .dsm .now)) (a .pages .now) (a .budget) (c .before .before .before .before .before .before .before .before .before .before .before .before .before .refuses .ensures) (c .before .before .before .before .before .before .before .before .before .before .before .before .if1 .left) (c .before .before .before .before .before .before .before .before .before .before .before .smaller .ensures) (c .before .before .before .before .before .before .before .run .ensures)
+returns-2 c = let a = c .before .before .before .before .before .before .before .before .before .before .before .before .before .before .before .before .before .before .before .before .before .args in let p = c .before .before .before .before .before .before .before .run in replay-done (state (a .«record») (a .hkroot .now) (a .mack .now) (a .dsm .now)) (a .pages .now) (a .budget) (c .before .before .before .before .before .before .before .before .before .before .before .before .before .refuses .ensures) {x = ran (p .result) (p .last .1 .0) (p .last .1 .1 .0) (p .last .1 .1 .1 .0)} (c .before .before .before .before .before .before .before .before .before .before .before .before .if1 .left) (c .before .before .before .before .before .before .before .before .before .before .before .smaller .ensures) (p .ensures)
 
 pub replay-spec : {M : Type 1} → statement M
 replay-spec =

@@ -47,7 +47,7 @@ loop-less : tie.Need-loop-less Inv-loop μ-loop
 loop-less c = omega arith
 
 loop-again : tie.Need-loop-again Inv-loop μ-loop
-loop-again c = let a = c .before .before .before .before .before .before .before .before .before .before .before .before .before .before .before .before .before .args in let h = c .before .before .before .before .before .before .before .before .before .before .before .before .loop in (omega arith, turn-again (state (a .«record») (a .hkroot .now) (a .mack .now) (a .dsm .now)) (a .pages .now) (h .k) (h .so-far) (h .hkroot) (h .mack) (h .dsm) (h .inv .1) (slice-30 (a .pages .now) (h .k)) (c .before .before .before .before .before .before .and-then .ensures), search needs, search needs, search needs)
+loop-again c = let p = c .before .before .before .before .before .before .and-then in let a = c .before .before .before .before .before .before .before .before .before .before .before .before .before .before .before .before .before .args in let h = c .before .before .before .before .before .before .before .before .before .before .before .before .loop in (omega arith, turn-again (state (a .«record») (a .hkroot .now) (a .mack .now) (a .dsm .now)) (a .pages .now) (h .k) (h .so-far) (h .hkroot) (h .mack) (h .dsm) (h .inv .1) (slice-30 (a .pages .now) (h .k)) {y = ran (p .result) (p .last .1 .0) (p .last .1 .1 .0) (p .last .1 .1 .1 .0)} (p .ensures), search needs, search needs, search needs)
 
 same-length : tie.Need-same-length Inv-loop μ-loop
 same-length c = search needs
