@@ -308,13 +308,8 @@ fn search<'a>(
         return MackFound::Nothing;
     }
     let many = counts[place] as usize;
-    find(
-        satellites,
-        statuses,
-        messages * place,
-        many,
-        asked.satellite,
-    )
+    let at = messages * place;
+    find(satellites, statuses, at, many, asked.satellite)
 }
 
 // The refusal number of what is stored, after those of the record, satellite and time; 0 for none.

@@ -27,8 +27,8 @@ shared-slice-read-many c = search needs
 cast-many : tie.Need-cast-many
 cast-many c = omega (arith, c .shared-slice-known7 .given (c .before .before .lowest .result))
 
-mul-find : tie.Need-mul-find
-mul-find c = let a = c .before .before .before .before .before .before .before .before .before .before .before .args in let o : Storage = record { current = a .current; timed = a .timed .now; weeks = a .weeks .now; tows = a .tows .now; counts = a .counts .now; satellites = a .satellites .now; statuses = a .statuses .now } in let q : Asked = askedOf (a .asked) in let few = place-few (a .messages) o (c .before .before .lowest .result) (legal-at (a .messages) (a .times) o (ask-legal (a .messages) (a .times) o q (c .before .before .before .before .ask-refuses .ensures) (c .before .before .before .if1 .left)) (c .before .before .lowest .result) (c .before .if2 .left)) in let r = room (a .messages) (a .times) (c .before .before .lowest .result) _ (c .before .if2 .left) few in omega (arith, r, c .before .before .before .before .before .before .before .before .before .before .before .pre .few)
+mul-at : tie.Need-mul-at
+mul-at c = let a = c .before .before .before .before .before .before .before .before .before .before .before .args in let o : Storage = record { current = a .current; timed = a .timed .now; weeks = a .weeks .now; tows = a .tows .now; counts = a .counts .now; satellites = a .satellites .now; statuses = a .statuses .now } in let q : Asked = askedOf (a .asked) in let few = place-few (a .messages) o (c .before .before .lowest .result) (legal-at (a .messages) (a .times) o (ask-legal (a .messages) (a .times) o q (c .before .before .before .before .ask-refuses .ensures) (c .before .before .before .if1 .left)) (c .before .before .lowest .result) (c .before .if2 .left)) in let r = room (a .messages) (a .times) (c .before .before .lowest .result) _ (c .before .if2 .left) few in omega (arith, r, c .before .before .before .before .before .before .before .before .before .before .before .pre .few)
 
 find-requires : tie.Need-find-requires
 find-requires c κs = let a = c .before .before .before .before .before .before .before .before .before .before .before .args in let o : Storage = record { current = a .current; timed = a .timed .now; weeks = a .weeks .now; tows = a .tows .now; counts = a .counts .now; satellites = a .satellites .now; statuses = a .statuses .now } in let q : Asked = askedOf (a .asked) in let few = place-few (a .messages) o (c .before .before .lowest .result) (legal-at (a .messages) (a .times) o (ask-legal (a .messages) (a .times) o q (c .before .before .before .before .ask-refuses .ensures) (c .before .before .before .if1 .left)) (c .before .before .lowest .result) (c .before .if2 .left)) in let r = room (a .messages) (a .times) (c .before .before .lowest .result) _ (c .before .if2 .left) few in (omega (arith, r, c .before .before .before .before .before .before .before .before .before .before .before .pre .satellites-long), omega (arith, r, c .before .before .before .before .before .before .before .before .before .before .before .pre .statuses-long), omega (arith, r, c .before .before .before .before .before .before .before .before .before .before .before .pre .few))
@@ -46,6 +46,6 @@ search-spec =
     returns-2
     shared-slice-read-many
     cast-many
-    mul-find
+    mul-at
     find-requires
     returns-3)
