@@ -1,9 +1,13 @@
 pub mod Blocks
+pub mod Decimals
 pub mod PageFold
 pub mod PagePieces
 pub mod PageSteps
 pub mod Pages
+pub mod ReadArguments
 pub mod Recovery
 pub mod ReplayUnique
 pub mod SubframeUnique
+pub mod TextUnique
 pub mod Unique
+pub mod Written

@@ -1,5 +1,8 @@
+pub mod Arguments
+pub mod Decimal
 pub mod Dsm
 pub mod Inner
+pub mod Lines
 pub mod Pieces
 pub mod Promises
 pub mod Recovery
