@@ -1,0 +1,41 @@
+// Replays pages: `replay SATELLITE WEEK TIME < PAGES`. All that matters is in `collectors`; here are arguments, reading and writing.
+mod asked;
+mod held;
+mod input;
+mod pages;
+mod print;
+
+use asked::Asked;
+use collectors::arguments::Arguments;
+use collectors::replay;
+use collectors::replay::Begun;
+
+fn run(satellite: u8, week: u16, time: u32) {
+    let begun = replay::new(satellite, week, time);
+    let answer = begun.answer;
+    match answer {
+        Begun::Refused(n) => {
+            print::refused(n);
+        }
+        Begun::Ready => {
+            let record = begun.replay;
+            input::replay_all(record);
+        }
+    }
+}
+
+fn main() {
+    match asked::arguments() {
+        Asked::TooLong => print::too_long(),
+        Asked::Read(answer) => match answer {
+            Arguments::Refused(n) => {
+                print::refused(n);
+            }
+            Arguments::Given {
+                satellite,
+                week,
+                time,
+            } => run(satellite, week, time),
+        },
+    }
+}
