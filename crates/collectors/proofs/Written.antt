@@ -8,8 +8,8 @@ use native.Mathlib.Numerals.{add-one}
 use lib.ListN.{length, getD, take, drop, set, length-append, length-drop, length-set}
 use lib.Seq.{append-snoc, take-at, drop-append-add, drop-drop, set-split, length-take-le}
 use Rattle.collectors.specs.Decimal.{digits, most}
-use Rattle.collectors.specs.Lines.{Part, _of_, bytes, line, put, Written, written}
-use Rattle.collectors.specs.LinesInner.{Begun, Counts}
+use Rattle.collectors.specs.Lines.{Part, _of_, bytes, line, put, Written, written, Counts}
+use Rattle.collectors.specs.LinesInner.{Begun}
 use Rattle.collectors.proofs.Decimals.{digits-one, digits-ten, digits-few}
 
 -- what stands before the end of what was put

@@ -43,6 +43,10 @@ written ps out = record { many = length (line ps); out = put out 0 (line ps) }
 abbrev Writes : List Part → List ℕ → ℕ → List ℕ → Type 0
 Writes ps before r after = _≡_ {A = Written} (record { many = r; out = after }) (written ps before)
 
+-- `n` counts bytes at the start of `out`: what lending them as a part asks
+abbrev pub Counts : ℕ → List ℕ → Type 0
+Counts n out = (n ≤ length out) × (n ≡ length (take n out))
+
 -- "S 3 1200 60"
 abbrev pub SubframeLine : List ℕ → ℕ → ℕ → ℕ → ℕ → List ℕ → Type 0
 SubframeLine before satellite week time r after = Writes ("S " of satellite ∷ " " of week ∷ " " of time ∷ []) before r after

@@ -3,7 +3,7 @@
 use Prim.Native.Nat.{ℕ, _≤_}
 use mathlib.Core.Path.{_≡_}
 use mathlib.Core.List.{List}
-use lib.ListN.{length, take}
+use lib.ListN.{length}
 use Rattle.collectors.specs.Lines.{put}
 
 -- a line is begun: the first bytes of a buffer `m` are `s`, and the line goes on at `at`
@@ -11,7 +11,3 @@ pub record Begun (m s out : List ℕ) (at : ℕ) : Type 0 where
   pub room : length s ≤ length m
   pub end : at ≡ length s
   pub bytes : out ≡ put m 0 s
-
--- `n` counts bytes at the start of `out`: what lending them as a part asks
-abbrev pub Counts : ℕ → List ℕ → Type 0
-Counts n out = (n ≤ length out) × (n ≡ length (take n out))

@@ -4,8 +4,8 @@ ghost use mathlib.Core.List.{List, [], _∷_, _++_};
 ghost use Prim.Native.Nat.{ℕ, _+_, _≤_};
 ghost use lib.ListN.{length};
 ghost use Rattle.collectors.specs.Decimal.{digits};
-ghost use Rattle.collectors.specs.LinesInner.{Begun, Counts};
-ghost use Rattle.collectors.specs.Lines.{put, SubframeLine, DsmLine, TotalsLine, RefusedLine};
+ghost use Rattle.collectors.specs.LinesInner.{Begun};
+ghost use Rattle.collectors.specs.Lines.{put, Counts, SubframeLine, DsmLine, TotalsLine, RefusedLine};
 
 // The words go to `at`. Answers where they end.
 fn put_words(out: &mut [u8], at: usize, words: &[u8]) -> usize
