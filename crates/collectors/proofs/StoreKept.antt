@@ -238,7 +238,6 @@ module _ (messages times : ℕ) (s : State) (p j : ℕ) (c : Call) (hp : p < tim
 
   held-found : 1 ≤ c .asked .satellite → c .asked .satellite ≤ 36 → c .asked .week ≤ 4095 → c .asked .time ≤ 604799 → reached times (s .storage) (c .asked .week) (c .asked .time) ≡ p
       → get messages times (s .storage) (c .asked) ≡ gives (60 * entry messages p j ∷ c .status ∷ [])
-  unfolding reached
   held-found some few in-week in-time r =
       let it : j ≡ first (sentBy (s .storage .satellites) (messages * p) (c .asked .satellite)) (getD (s .storage .counts) p 0) 0 =
       sym

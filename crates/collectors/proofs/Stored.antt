@@ -226,16 +226,20 @@ module _ (satellites statuses : List ℕ) (at count satellite : ℕ) {j : ℕ} (
   unfolding foundAmong firstOf
   find-none h = rw (← e, le-ltb j count h)
 
+pub reaches : (times : ℕ) (o : Storage) (week time : ℕ) {p : ℕ} → p ≡ first (hasTime o week time) times 0 → p ≡ reached times o week time
+unfolding reached
+reaches times o week time e = e
+
 module _ (messages times : ℕ) (o : Storage) (a : Asked) {q : ℕ} (e : q ≡ refusal (askChecks messages times o a)) where
   pub get-refused : (q ≡ 0 → ⊥) → refused q ≡ get messages times o a
   unfolding get
   get-refused ne = rw (← e) (refused-with q _ ne)
 
-  module _ (z : q ≡ 0) {p : ℕ} (h : p ≡ first (hasTime o (a .week) (a .time)) times 0) where
+  module _ (z : q ≡ 0) {p : ℕ} (h : p ≡ reached times o (a .week) (a .time)) where
     pub get-there : p < times → {x : Answer} → x ≡ found messages o p (a .satellite) → x ≡ get messages times o a
-    unfolding get reached
+    unfolding get
     get-there l g = rw (← e) (given-with q _ z (rw (← h, lt-ltb p times l) g))
 
     pub get-nowhere : times ≤ p → nothing ≡ get messages times o a
-    unfolding get reached
+    unfolding get
     get-nowhere l = rw (← e) (given-with q _ z (rw (← h, le-ltb p times l)))
