@@ -1,6 +1,8 @@
 // The bytes of a page that is not whole yet.
+ghost use mathlib.Core.Path.{_≡_};
 ghost use Prim.Native.Nat.{_≤_};
 ghost use lib.ListN.{length};
+ghost use Rattle.replay.specs.Held.{Fills, Leaves};
 
 pub struct Held {
     pub bytes: [u8; 30],
@@ -13,7 +15,9 @@ pub struct Filled {
     pub taken: usize,
 }
 
-pub fn none() -> Held {
+pub fn none() -> Held
+    ensures { λ r. ⌜ r .many ≡ 0 ⌝ }
+{
     Held {
         bytes: [0; 30],
         many: 0,
@@ -22,6 +26,7 @@ pub fn none() -> Held {
 
 // With the bytes of a piece, as many as there is room for.
 pub fn fill(held: Held, piece: &[u8]) -> Filled
+    ensures { λ r. ⌜ Fills (held .bytes) (held .many) (now (piece .entry)) (r .held .bytes) (r .held .many) (r .taken) ⌝ }
     ensures { λ r. ⌜ r .taken ≤ length (now (piece .entry)) ⌝ }
 {
     let mut bytes = held.bytes;
@@ -41,7 +46,9 @@ pub fn fill(held: Held, piece: &[u8]) -> Filled
 }
 
 // What is left behind the whole pages of a piece.
-pub fn rest(piece: &[u8]) -> Held {
+pub fn rest(piece: &[u8]) -> Held
+    ensures { λ r. ⌜ Leaves (now (piece .entry)) (r .bytes) (r .many) ⌝ }
+{
     let start = piece.len() - piece.len() % 30;
     let filled = fill(none(), &piece[start..]);
     filled.held

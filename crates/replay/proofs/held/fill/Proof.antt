@@ -1,22 +1,24 @@
 -- `held::fill`: the page fills up, or the piece ends.
 -- Assumes nothing.
-use Prim.Native.Nat.{_≤_, _-_}
+use Prim.Native.Nat.{_-_}
 use lib.ListN.{length}
 use native.Mathlib.Omega.{arith}
+use borrow.Author.Needs.{needs}
+use Rattle.replay.proofs.Filling.{So, at-first, one-more, full, ended}
 use Rattle.replay.proofs.held.fill.Statement.{statement}
 use Rattle.replay.proofs.held.fill.Tie as tie
 
 abbrev Inv-loop : tie.InvT-loop
-Inv-loop piece bytes₀ many₀ taken₀ bytes many taken = taken ≤ length piece
+Inv-loop piece bytes₀ many₀ taken₀ bytes many taken = So bytes₀ many₀ piece bytes many taken
 
 abbrev μ-loop : tie.MeasureT-loop
 μ-loop piece bytes₀ many₀ taken₀ bytes many taken = length piece - taken
 
 loop-holds : tie.Need-loop-holds Inv-loop μ-loop
-loop-holds c = omega arith
+loop-holds c = at-first _ _ _ (search needs)
 
 returns : tie.Need-returns Inv-loop μ-loop
-returns c = omega arith
+returns c = (full (c .if1 .taken) (c .before .before .loop .inv), c .before .before .loop .inv .few)
 
 shared-slice-read-bytes : tie.Need-shared-slice-read-bytes Inv-loop μ-loop
 shared-slice-read-bytes c = omega arith
@@ -34,10 +36,10 @@ loop-less : tie.Need-loop-less Inv-loop μ-loop
 loop-less c = omega arith
 
 loop-again : tie.Need-loop-again Inv-loop μ-loop
-loop-again c = omega arith
+loop-again c = one-more (omega arith) (omega arith) (c .before .before .before .loop .inv)
 
 returns-2 : tie.Need-returns-2 Inv-loop μ-loop
-returns-2 c = omega arith
+returns-2 c = (ended (omega arith) (c .before .loop .inv), c .before .loop .inv .few)
 
 pub fill-spec : {M : Type 1} → statement M
 fill-spec =
