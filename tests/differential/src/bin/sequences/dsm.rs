@@ -198,7 +198,7 @@ impl Source {
             // the message is another one, of the same ID or not
             self.messages[self.now] = Source::message(random);
         }
-        if random.below(if self.trouble > 10 { 12 } else { 60 }) == 0 {
+        if random.below(if self.trouble > 10 { 12 } else { 40 }) == 0 {
             self.now = random.below(self.messages.len() as u64) as usize;
         }
         let n = if self.shuffled { random.below(16) as u8 } else { self.next };
