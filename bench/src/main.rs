@@ -1,6 +1,5 @@
 //! bench PAGES: times of the port and of the published Rust for the same work, as a table.
 use std::hint::black_box;
-use std::time::Instant;
 
 mod collectors;
 mod pages;
@@ -10,7 +9,23 @@ mod probe;
 mod readers;
 
 /// How often each work is timed; the least time counts.
-const REPEATS: usize = 9;
+const REPEATS: usize = 15;
+
+/// The processor time of this thread in nanoseconds: another program on the machine does not add to it.
+fn clock() -> u64 {
+    #[repr(C)]
+    struct Time {
+        seconds: i64,
+        nanoseconds: i64,
+    }
+    unsafe extern "C" {
+        safe fn clock_gettime(clock: i32, time: &mut Time) -> i32;
+    }
+    const THREAD_CPUTIME: i32 = 3;
+    let mut time = Time { seconds: 0, nanoseconds: 0 };
+    assert_eq!(clock_gettime(THREAD_CPUTIME, &mut time), 0);
+    1_000_000_000 * time.seconds as u64 + time.nanoseconds as u64
+}
 
 /// A work done by each of several sides, in turn, so that a slow moment of the machine meets all of them.
 pub struct Work<'a> {
@@ -22,30 +37,42 @@ pub struct Work<'a> {
 }
 
 impl Work<'_> {
-    pub fn print(mut self) {
+    /// The least time of each side for one unit, in nanoseconds.
+    fn times(&mut self) -> Vec<f64> {
         let mut least = vec![f64::MAX; self.sides.len()];
         let mut sums = vec![0; self.sides.len()];
         for _ in 0..REPEATS {
             for (place, side) in self.sides.iter_mut().enumerate() {
-                let begin = Instant::now();
+                let begin = clock();
                 sums[place] = black_box(side.1());
-                least[place] = least[place].min(begin.elapsed().as_nanos() as f64 / self.units as f64);
+                least[place] = least[place].min((clock() - begin) as f64 / self.units as f64);
             }
         }
         assert!(sums.iter().all(|sum| *sum == sums[0]), "{}: the sides answer differently: {sums:?}", self.name);
-        for (place, (side, _)) in self.sides.iter().enumerate() {
-            let ratio = least[place] / least[0];
-            println!("| {} | {side} | {:.1} | {ratio:.2} |", self.name, least[place]);
+        least
+    }
+
+    /// A row for each side.
+    pub fn print(mut self) {
+        let times = self.times();
+        for ((side, _), time) in self.sides.iter().zip(&times) {
+            println!("| {} | {side} | {time:.1} | {:.2} |", self.name, time / times[0]);
         }
+    }
+
+    /// One row for two sides.
+    pub fn print_pair(mut self) {
+        let times = self.times();
+        println!("| {} | {:.1} | {:.1} | {:.2} |", self.name, times[0], times[1], times[1] / times[0]);
     }
 }
 
 fn main() {
     let pages = std::env::args().nth(1).and_then(|word| word.parse().ok()).unwrap_or(2_000_000);
-    println!("| work | side | ns for each | of the Rust's time |");
-    println!("|---|---|---|---|");
+    println!("| work | side | ns for each | of the Rust's time |\n|---|---|---|---|");
     pages::run(pages);
     collectors::run();
+    println!("\n| reader | Rust, ns | C boundary, ns | of the Rust's time |\n|---|---|---|---|");
     readers::run();
 }
 

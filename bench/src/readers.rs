@@ -57,13 +57,25 @@ fn all(messages: &[Vec<u8>], read: impl Fn(&[u8]) -> u64) -> u64 {
     sum
 }
 
+/// A reader of the Rust in the shape of a C function: a call that is not inlined, its number through a pointer.
+#[inline(never)]
+fn shaped(read: &impl Fn(&[u8]) -> u64, message: &[u8], value: &mut u64) -> u32 {
+    *value = read(message);
+    0
+}
+
 fn pair(name: &'static str, messages: &[Vec<u8>], rust: impl Fn(&[u8]) -> u64, port: impl Fn(&[u8]) -> u64) {
+    let rust = |message: &[u8]| {
+        let mut value = 0;
+        shaped(&rust, message, &mut value);
+        value
+    };
     Work {
         name,
         units: ROUNDS * messages.len(),
-        sides: vec![("Rust", Box::new(|| all(messages, &rust))), ("C boundary", Box::new(|| all(messages, &port)))],
+        sides: vec![("Rust", Box::new(|| all(messages, rust))), ("C boundary", Box::new(|| all(messages, &port)))],
     }
-    .print();
+    .print_pair();
 }
 
 /// Messages of one length, with some bytes set.
@@ -142,7 +154,10 @@ fn headers() {
 fn kroot() {
     // 8 blocks, key of 128 bits, tags of 40, P-256
     let m = messages(104, &[(0, 0x21), (2, 0x49)]);
-    let bits = |m: &[u8], start: usize, width: usize| BitSlice::from_slice(m)[start..start + width].load_be::<u64>();
+    fn bits(m: &[u8], start: usize, width: usize) -> u64 {
+        let (start, width) = (black_box(start), black_box(width));
+        BitSlice::from_slice(m)[start..start + width].load_be()
+    }
     pair(
         "kroot number_of_blocks",
         &m,
@@ -235,33 +250,33 @@ fn mack() {
         port!(osnma_mack_adkd, 128, 40, 1),
     );
     pair("mack tag_cop", &m, |m| of(m).tag_and_info(1).cop().into(), port!(osnma_mack_tag_cop, 128, 40, 1));
-    for (name, tag_size) in [("mack key, whole bytes", 40), ("mack key, half a byte in", 20)] {
-        pair(
-            name,
-            &m,
-            |m| {
-                let mack: Mack<'_, oracle::validation::NotValidated> = Mack::new(m.try_into().unwrap(), 128, tag_size);
-                let mut key = [0u8; 16];
-                key.iter_mut().zip(mack.key().chunks(8)).for_each(|(byte, bits)| *byte = bits.load_be());
-                u64::from(key[0]) + u64::from(key[15])
-            },
-            |m| {
-                let mut key = [0u8; 16];
-                unsafe { osnma_mack_key(m.as_ptr(), m.len(), 128, tag_size as u64, key.as_mut_ptr(), 16) };
-                u64::from(key[0]) + u64::from(key[15])
-            },
-        );
-    }
+    pair("mack key, whole bytes", &m, rust_key::<40>, port_key::<40>);
+    pair("mack key, half a byte in", &m, rust_key::<20>, port_key::<20>);
+}
+
+fn rust_key<const TAG: usize>(m: &[u8]) -> u64 {
+    let mack = Mack::new(m.try_into().unwrap(), 128, TAG);
+    let mut key = [0u8; 16];
+    key.iter_mut().zip(mack.key().chunks(8)).for_each(|(byte, bits)| *byte = bits.load_be());
+    u64::from(key[0]) + u64::from(key[15])
+}
+
+fn port_key<const TAG: u64>(m: &[u8]) -> u64 {
+    let mut key = [0u8; 16];
+    unsafe { osnma_mack_key(m.as_ptr(), m.len(), 128, TAG, key.as_mut_ptr(), 16) };
+    u64::from(key[0]) + u64::from(key[15])
 }
 
 fn table() {
     // message and tag from the first byte, all in range of ID 35
     let m = messages(1, &[]);
-    let place = |m: &[u8]| (usize::from(m[0] & 1), 1 + usize::from(m[0] >> 1) % 5);
+    fn place(m: &[u8]) -> (usize, usize) {
+        (usize::from(m[0] & 1), 1 + usize::from(m[0] >> 1) % 5)
+    }
     pair(
         "get_maclt_entry",
         &m,
-        move |m| {
+        |m| {
             let (message, tag) = place(m);
             match get_maclt_entry(35, message, tag).unwrap() {
                 MacLTSlot::Flex => 100,
@@ -272,7 +287,7 @@ fn table() {
                 },
             }
         },
-        move |m| {
+        |m| {
             let (message, tag) = place(m);
             let (mut flex, mut adkd, mut object) = (0, 0, 0);
             osnma_get_maclt_entry(35, message as u64, tag as u64, &mut flex, &mut adkd, &mut object);
@@ -282,8 +297,8 @@ fn table() {
     pair(
         "get_flx_indices",
         &m,
-        move |m| get_flx_indices(35, place(m).0).unwrap().map(|n| n as u64).sum(),
-        move |m| {
+        |m| get_flx_indices(35, place(m).0).unwrap().map(|n| n as u64).sum(),
+        |m| {
             let (mut count, mut out) = (0, [0; 4]);
             unsafe { osnma_get_flx_indices(35, place(m).0 as u64, &mut count, out.as_mut_ptr(), 4) };
             out.iter().map(|n| u64::from(*n)).sum()

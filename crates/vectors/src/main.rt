@@ -1,4 +1,5 @@
-// Holds `layouts` to the recorded answers of the Rust, in the file answers.bin, and to the published values.
+// Holds `layouts` to the recorded answers of the Rust, in the file answers.bin, and to the published values, and `collectors`
+// to its recorded sequences of calls, in the file sequences.bin.
 mod checksum;
 mod found;
 mod hex;
@@ -14,10 +15,14 @@ mod replay_kroot;
 mod replay_mack;
 mod replay_pkr;
 mod replay_table;
+mod sequence_calls;
+mod sequences;
 mod tally;
 
 fn main() {
     print::checksum(checksum::of_file(b"answers.bin"));
     print::summary(replay::all(b"answers.bin"));
     print::published_summary(published::all());
+    print::sequences_checksum(checksum::of_file(b"sequences.bin"));
+    print::sequences_summary(sequences::all(b"sequences.bin"));
 }

@@ -89,3 +89,19 @@ pub fn published_summary(t: Tally) {
     number(t.differ);
     text(b" differ\n");
 }
+
+pub fn sequences_checksum(sum: u64) {
+    text(b"checksum of sequences.bin: ");
+    number(sum);
+    text(b"\n");
+}
+
+pub fn sequences_summary(t: Tally) {
+    text(b"recorded sequences: ");
+    number(tally::total(t.good, t.refused));
+    text(b" calls (");
+    number(t.refused);
+    text(b" refusals), ");
+    number(t.differ);
+    text(b" differ\n");
+}

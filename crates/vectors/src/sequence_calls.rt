@@ -1,0 +1,216 @@
+// The calls of a recorded sequence. An answer is a record's values: 1 and its numbers, or zeros for nothing.
+use crate::found;
+use crate::found::Found;
+use crate::records::Record;
+use collectors::dsm::CollectDsm;
+use collectors::dsm::DsmAnswer;
+use collectors::mack_storage::MackFound;
+use collectors::mack_storage::MackStorage;
+use collectors::mack_storage::StoreAnswer;
+use collectors::subframe::CollectSubframe;
+use collectors::subframe::Message;
+use collectors::subframe::SubframeAnswer;
+use layouts::dsm_header::DsmType;
+
+pub struct Held {
+    pub subframe: CollectSubframe,
+    pub dsm: CollectDsm,
+    pub storage: MackStorage,
+}
+
+pub struct Called {
+    pub held: Held,
+    pub found: Found,
+}
+
+pub fn new() -> Held {
+    Held {
+        subframe: collectors::subframe::new(),
+        dsm: collectors::dsm::new(),
+        storage: collectors::mack_storage::new(),
+    }
+}
+
+// New records; the lent bytes stay as they are, and must not matter.
+pub fn anew() -> Called {
+    Called {
+        held: new(),
+        found: found::value(0),
+    }
+}
+
+// For what cannot be called.
+pub fn unchanged(held: Held) -> Called {
+    Called {
+        held,
+        found: found::nothing(),
+    }
+}
+
+fn page_found(answer: SubframeAnswer, fits: bool) -> Found {
+    match answer {
+        SubframeAnswer::Refused(n) => found::refused(n, fits),
+        SubframeAnswer::Nothing => found::values(0, 0, 0, fits),
+        SubframeAnswer::Complete { week, time } => found::values(1, week as u64, time as u64, fits),
+    }
+}
+
+// Whether the views of the satellite show the 15 and the 60 expected bytes, or nothing where none are.
+fn pair_shown<'a>(
+    collector: CollectSubframe,
+    hkroot: &'a [u8],
+    mack: &'a [u8],
+    satellite: u8,
+    expected: &[u8],
+) -> bool {
+    let h = collectors::subframe::view(collector, hkroot, mack, Message::Hkroot, satellite);
+    let m = collectors::subframe::view(collector, hkroot, mack, Message::Mack, satellite);
+    if expected.len() != 75 {
+        return expected.len() == 0 && h.len() == 0 && m.len() == 0;
+    }
+    check::same(h, &expected[0..15]) && check::same(m, &expected[15..75])
+}
+
+// 90: a page.
+pub fn page(
+    held: Held,
+    hkroot: &mut [u8],
+    mack: &mut [u8],
+    r: Record,
+    msg: &[u8],
+    expected: &[u8],
+) -> Called {
+    if 255 < r.a {
+        return unchanged(held);
+    }
+    if 65535 < r.b {
+        return unchanged(held);
+    }
+    if 4294967295 < r.c {
+        return unchanged(held);
+    }
+    let satellite = r.a as u8;
+    let week = r.b as u16;
+    let time = r.c as u32;
+    let fed = collectors::subframe::feed(held.subframe, hkroot, mack, msg, satellite, week, time);
+    let collector = fed.collector;
+    let answer = fed.answer;
+    let fits = pair_shown(collector, hkroot, mack, satellite, expected);
+    let mut next = held;
+    next.subframe = collector;
+    Called {
+        held: next,
+        found: page_found(answer, fits),
+    }
+}
+
+fn block_found(answer: DsmAnswer, fits: bool) -> Found {
+    match answer {
+        DsmAnswer::Refused(n) => found::refused(n, fits),
+        DsmAnswer::Nothing => found::values(0, 0, 0, fits),
+        DsmAnswer::Complete {
+            id,
+            dsm_type,
+            bytes,
+        } => {
+            let wide = id as u64 * 2;
+            match dsm_type {
+                DsmType::Kroot => found::values(1, wide, bytes as u64, fits),
+                DsmType::Pkr => found::values(1, wide + 1, bytes as u64, fits),
+            }
+        }
+    }
+}
+
+// 91: a block.
+pub fn block(held: Held, dsm: &mut [u8], r: Record, msg: &[u8], expected: &[u8]) -> Called {
+    if 255 < r.a {
+        return unchanged(held);
+    }
+    let fed = collectors::dsm::feed(held.dsm, dsm, r.a as u8, msg);
+    let collector = fed.collector;
+    let answer = fed.answer;
+    let fits = check::same(collectors::dsm::view(collector, dsm), expected);
+    let mut next = held;
+    next.dsm = collector;
+    Called {
+        held: next,
+        found: block_found(answer, fits),
+    }
+}
+
+// 92: a message to store, after its status.
+pub fn store(held: Held, memory: &mut [u8], r: Record, msg: &[u8], expected: &[u8]) -> Called {
+    if 255 < r.a {
+        return unchanged(held);
+    }
+    if 65535 < r.b {
+        return unchanged(held);
+    }
+    if 4294967295 < r.c {
+        return unchanged(held);
+    }
+    if msg.len() < 1 {
+        return unchanged(held);
+    }
+    let status = msg[0];
+    let message = &msg[1..];
+    let stored = collectors::mack_storage::store(
+        held.storage,
+        memory,
+        message,
+        r.a as u8,
+        r.b as u16,
+        r.c as u32,
+        status,
+    );
+    let answer = stored.answer;
+    let storage = stored.storage;
+    let mut next = held;
+    next.storage = storage;
+    let fits = expected.len() == 0;
+    match answer {
+        StoreAnswer::Refused(n) => Called {
+            held: next,
+            found: found::refused(n, fits),
+        },
+        StoreAnswer::Stored => Called {
+            held: next,
+            found: found::values(0, 0, 0, fits),
+        },
+    }
+}
+
+// 93: a message that is asked for, with its status.
+pub fn get(held: Held, memory: &[u8], r: Record, msg: &[u8], expected: &[u8]) -> Called {
+    if 255 < r.a {
+        return unchanged(held);
+    }
+    if 65535 < r.b {
+        return unchanged(held);
+    }
+    if 4294967295 < r.c {
+        return unchanged(held);
+    }
+    let none = msg.len() == 0 && expected.len() == 0;
+    let answer = collectors::mack_storage::get(held.storage, r.a as u8, r.b as u16, r.c as u32);
+    match answer {
+        MackFound::Refused(n) => Called {
+            held,
+            found: found::refused(n, none),
+        },
+        MackFound::Nothing => Called {
+            held,
+            found: found::values(0, 0, 0, none),
+        },
+        MackFound::At { first, status } => Called {
+            held,
+            found: found::values(
+                1,
+                status as u64,
+                0,
+                found::lies_at(memory, first, 60, expected),
+            ),
+        },
+    }
+}
