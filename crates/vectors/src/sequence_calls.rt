@@ -139,6 +139,13 @@ pub fn block(held: Held, dsm: &mut [u8], r: Record, msg: &[u8], expected: &[u8])
     }
 }
 
+fn store_found(answer: StoreAnswer, fits: bool) -> Found {
+    match answer {
+        StoreAnswer::Refused(n) => found::refused(n, fits),
+        StoreAnswer::Stored => found::values(0, 0, 0, fits),
+    }
+}
+
 // 92: a message to store, after its status.
 pub fn store(held: Held, memory: &mut [u8], r: Record, msg: &[u8], expected: &[u8]) -> Called {
     if 255 < r.a {
@@ -168,16 +175,9 @@ pub fn store(held: Held, memory: &mut [u8], r: Record, msg: &[u8], expected: &[u
     let storage = stored.storage;
     let mut next = held;
     next.storage = storage;
-    let fits = expected.len() == 0;
-    match answer {
-        StoreAnswer::Refused(n) => Called {
-            held: next,
-            found: found::refused(n, fits),
-        },
-        StoreAnswer::Stored => Called {
-            held: next,
-            found: found::values(0, 0, 0, fits),
-        },
+    Called {
+        held: next,
+        found: store_found(answer, expected.len() == 0),
     }
 }
 

@@ -61,6 +61,18 @@ struct Replayed {
     tally: Tally,
 }
 
+// What is held and counted after a call.
+fn after_call(next: Called, r: Record, number: u64, t: Tally) -> Replayed {
+    let found = next.found;
+    let held = next.held;
+    let tally = judged(r, found, number, t);
+    Replayed {
+        more: true,
+        held,
+        tally,
+    }
+}
+
 // One record of the file, its number counted from 1 on.
 fn turn(
     fd: i32,
@@ -89,17 +101,12 @@ fn turn(
                 tally,
             }
         }
-        Next::Whole(r) => {
-            let next = called(held, hkroot, mack, dsm, memory, r, view);
-            let found = next.found;
-            let held = next.held;
-            let tally = judged(r, found, number, t);
-            Replayed {
-                more: true,
-                held,
-                tally,
-            }
-        }
+        Next::Whole(r) => after_call(
+            called(held, hkroot, mack, dsm, memory, r, view),
+            r,
+            number,
+            t,
+        ),
     }
 }
 
