@@ -12,14 +12,14 @@ use lib.Seq.{drop-drop}
 use lib.Dec.{ltb, eqb}
 use borrow.Author.Tests.{ltb-true, ltb-false, eqb-true, eqb-false}
 use Rattle.layouts.specs.Answer.{Answer, refused, nothing, gives, refusal}
-use Rattle.collectors.specs.Subframe.{Page, wordOf, State as Subframes, Fed as SubframesFed, feedChecks, used, offered, feed as feedPage}
-use Rattle.collectors.specs.Dsm.{State as Dsms}
-use Rattle.collectors.specs.Replay.{Time, later, State, Run, isCounted, subframesIn, dsmsIn, isUsed, passedOn, skipped, counted, fedPage, fed, pageStep, andThen, onward, replayed, pagesOf, most}
+use Rattle.subframes.specs.Subframe.{isUsed, Page, wordOf, State as Subframes, Fed as SubframesFed, feedChecks, used, offered, feed as feedPage}
+use Rattle.dsms.specs.Dsm.{State as Dsms}
+use Rattle.collectors.specs.Replay.{Time, later, State, Run, isCounted, subframesIn, dsmsIn, passedOn, skipped, counted, fedPage, fed, pageStep, andThen, onward, replayed, pagesOf, most}
 use Rattle.collectors.specs.ReplayPromises.{state}
 use Rattle.collectors.specs.ReplayInner.{ran, AtMostOne, InRange, Room}
 use Rattle.collectors.specs.declared.replay.PageReplay.{PageReplay}
 use Rattle.collectors.specs.declared.replay.Stepped.{Stepped}
-use Rattle.collectors.proofs.Pages.{answer-less}
+use Rattle.subframes.proofs.Pages.{answer-less}
 use Rattle.collectors.proofs.PageSteps.{one-few, pages-many}
 
 -- A page completes nothing unless its word is the last one.

@@ -15,15 +15,15 @@ use Rattle.layouts.specs.Bits.{bit, field}
 use Rattle.layouts.proofs.Answers.{none-fails}
 use Rattle.layouts.specs.DsmHeader.{dsmType}
 use Rattle.layouts.specs.Sizes.{krootBlocks}
-use Rattle.collectors.specs.Subframe.{Page, wordOf, subframeOf, small, State as Subframes, Fed as SubframesFed, feedChecks, changed, used, offered, answerAt, feed as feedPage, view as viewPage}
-use Rattle.collectors.specs.Dsm.{State as Dsms, Fed as DsmsFed, idOf, blockOf, feedChecks as blockChecks, begun, put, stored, counted as counted-blocks, allHeld, count, whole, finished, taken, feed as feedBlock}
-use Rattle.collectors.specs.Replay.{Totals, State, new, Run, isCounted, one, isUsed, passedOn, skipped, counted, fedPage, fed, pageStep, andThen, onward, replayed, pagesOf, wholePages, consumed, most, areFew, newChecks, replayChecks, Outcome, fedHkroot, osnma, later}
+use Rattle.subframes.specs.Subframe.{isUsed, Page, wordOf, subframeOf, small, State as Subframes, Fed as SubframesFed, feedChecks, changed, used, offered, answerAt, feed as feedPage, view as viewPage}
+use Rattle.dsms.specs.Dsm.{State as Dsms, Fed as DsmsFed, idOf, blockOf, feedChecks as blockChecks, begun, put, stored, counted as counted-blocks, allHeld, count, whole, finished, taken, feed as feedBlock}
+use Rattle.collectors.specs.Replay.{Totals, State, new, Run, isCounted, one, passedOn, skipped, counted, fedPage, fed, pageStep, andThen, onward, replayed, pagesOf, wholePages, consumed, most, areFew, newChecks, replayChecks, Outcome, fedHkroot, osnma, later}
 use Rattle.collectors.specs.Pieces.{OneOfEach, AddsUp, TotalsAddUp, PagesAddUp, followedBy, SplitAnywhere, Call, called, calledAll, consumedBytes, BudgetsLegal, plus, Ready, InPieces, NewIsReady, UsedIsTaken, Example}
 use Rattle.collectors.proofs.PageFold.{at-most-one, Sound, sound-step}
 use Rattle.collectors.proofs.PageSteps.{pages-many, all-few, few-each, new-admitted, call-admitted, legal, replay-done}
-use Rattle.collectors.proofs.Pages.{seen}
-use Rattle.collectors.proofs.Blocks.{header-id, header-block, admitted-then}
-use Rattle.collectors.proofs.DsmRun.{put-long}
+use Rattle.subframes.proofs.Pages.{seen}
+use Rattle.dsms.proofs.Blocks.{header-id, header-block, admitted-then}
+use Rattle.dsms.proofs.DsmRun.{put-long}
 
 pub one-of-each : OneOfEach
 one-of-each s pages h = let q = at-most-one s pages h in (q .subframe-one, q .dsm-one)

@@ -20,21 +20,21 @@ use Rattle.layouts.specs.declared.dsm_header.DsmType.the-variants.{Kroot, Pkr}
 use Rattle.layouts.proofs.Answers.{pass, done, answer-of, stopped, went-on, none-fails}
 use Rattle.layouts.proofs.Readers.{first-of}
 use Rattle.layouts.proofs.Fields.{field-lt}
-use Rattle.collectors.specs.Replay.{Time, later, Totals, State, new, Begun, begun, Dsm, Run, isCounted, osnma, isUsed, newChecks, replayChecks, subframesIn, dsmsIn, one, hkrootOf, fedHkroot, passedOn, skipped, counted, fedPage, fed, pageStep, andThen, areFew, most, Outcome, replay, replayed, pagesOf, consumed}
-use Rattle.collectors.specs.Subframe.{Page, State as Subframes, Fed as SubframesFed, feed as feedPage, small, viewChecks}
-use Rattle.collectors.specs.Dsm.{Fed as DsmsFed}
-use Rattle.collectors.specs.SubframePromises.{NewSubframe, HkrootMessageRead, meaning-subframe, state as subframeState}
-use Rattle.collectors.specs.Promises.{NewDsm, meaning-dsm, state as dsmState}
+use Rattle.collectors.specs.Replay.{Time, later, Totals, State, new, Begun, begun, Dsm, Run, isCounted, osnma, newChecks, replayChecks, subframesIn, dsmsIn, one, hkrootOf, fedHkroot, passedOn, skipped, counted, fedPage, fed, pageStep, andThen, areFew, most, Outcome, replay, replayed, pagesOf, consumed}
+use Rattle.subframes.specs.Subframe.{isUsed, Page, State as Subframes, Fed as SubframesFed, feed as feedPage, small, viewChecks}
+use Rattle.dsms.specs.Dsm.{Fed as DsmsFed}
+use Rattle.subframes.specs.SubframePromises.{NewSubframe, HkrootMessageRead, meaning-subframe, state as subframeState}
+use Rattle.dsms.specs.DsmPromises.{NewDsm, meaning-dsm, state as dsmState}
 use Rattle.collectors.specs.ReplayPromises.{state, meaning-subframes, meaning-dsms}
 use Rattle.collectors.specs.ReplayInner.{AtMostOne, InRange, Room}
-use Rattle.collectors.specs.declared.subframe.CollectSubframe.{CollectSubframe}
-use Rattle.collectors.specs.declared.subframe.HkrootMessage.{HkrootMessage}
-use Rattle.collectors.specs.declared.subframe.SubframeAnswer.{SubframeAnswer}
-use Rattle.collectors.specs.declared.subframe.SubframeAnswer.the-variants.{Refused as SubframeRefused, Nothing as NoSubframe, Complete as SubframeIs}
-use Rattle.collectors.specs.declared.dsm.CollectDsm.{CollectDsm}
+use Rattle.subframes.specs.declared.subframe.CollectSubframe.{CollectSubframe}
+use Rattle.subframes.specs.declared.subframe.HkrootMessage.{HkrootMessage}
+use Rattle.subframes.specs.declared.subframe.SubframeAnswer.{SubframeAnswer}
+use Rattle.subframes.specs.declared.subframe.SubframeAnswer.the-variants.{Refused as SubframeRefused, Nothing as NoSubframe, Complete as SubframeIs}
+use Rattle.dsms.specs.declared.dsm.CollectDsm.{CollectDsm}
 use Rattle.collectors.specs.declared.replay.PageReplay.{PageReplay}
-use Rattle.collectors.specs.declared.dsm.DsmAnswer.{DsmAnswer}
-use Rattle.collectors.specs.declared.dsm.DsmAnswer.the-variants.{Complete}
+use Rattle.dsms.specs.declared.dsm.DsmAnswer.{DsmAnswer}
+use Rattle.dsms.specs.declared.dsm.DsmAnswer.the-variants.{Complete}
 use Rattle.collectors.specs.declared.replay.SubframeDone.{SubframeDone}
 use Rattle.collectors.specs.declared.replay.SubframeDone.the-variants.{None, Subframe}
 use Rattle.collectors.specs.declared.replay.DsmDone.{DsmDone}

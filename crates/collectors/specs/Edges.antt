@@ -12,7 +12,7 @@ use Rattle.layouts.specs.DsmKroot.{krootLayout, ecdsaFunction}
 use Rattle.layouts.specs.DsmPkr.{pkrLayout, newKeySizes}
 use Rattle.layouts.specs.Mack.{bytesOf, sizeChecks, nt, keyStart}
 use Rattle.layouts.specs.Maclt.{entry, flxOf, rowOf, table}
-use Rattle.collectors.specs.Subframe.{wordOf, subframeOf}
+use Rattle.subframes.specs.Subframe.{wordOf, subframeOf}
 
 -- What is asked.
 pub data Asked : Type 0 where

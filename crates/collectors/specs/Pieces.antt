@@ -6,8 +6,8 @@ use mathlib.Core.Bool.{true, cond}
 use mathlib.Core.Path.{_≡_}
 use lib.ListN.{length, take, replicate}
 use Rattle.layouts.specs.Answer.{nothing, refusal}
-use Rattle.collectors.specs.Subframe.{Page, wordOf, subframeOf, State as Subframes, feedChecks, changed, used, feed as feedPage}
-use Rattle.collectors.specs.Replay.{State, Totals, new, Run, replayed, pagesOf, wholePages, consumed, isUsed, most, areFew, newChecks, replayChecks, replay}
+use Rattle.subframes.specs.Subframe.{isUsed, Page, wordOf, subframeOf, State as Subframes, feedChecks, changed, used, feed as feedPage}
+use Rattle.collectors.specs.Replay.{State, Totals, new, Run, replayed, pagesOf, wholePages, consumed, most, areFew, newChecks, replayChecks, replay}
 
 -- "A budget above 15 is 7, so a call completes at most one subframe and one DSM": so do fifteen pages, whatever they are, from any record
 abbrev pub OneOfEach : Type 0

@@ -7,8 +7,8 @@ use lib.ListN.{length, getD, take, drop}
 use lib.Dec.{leb, ltb, eqb}
 use Rattle.layouts.specs.Answer.{Answer, refused, nothing, gives, Check, _when_, refusal, copied}
 use Rattle.layouts.specs.Bits.{bit, field}
-use Rattle.collectors.specs.Subframe.{Page, wordOf, subframeOf, small, changed, view, State as Subframes, new as newSubframes, Fed as SubframeFed, feed as feedPage}
-use Rattle.collectors.specs.Dsm.{State as Dsms, new as newDsms, Fed as DsmFed, feed as feedBlock}
+use Rattle.subframes.specs.Subframe.{Page, small, isUsed, view, State as Subframes, new as newSubframes, Fed as SubframeFed, feed as feedPage}
+use Rattle.dsms.specs.Dsm.{State as Dsms, new as newDsms, Fed as DsmFed, feed as feedBlock}
 
 -- "two seconds apart": the time of a page, and of a subframe
 pub record Time : Type 0 where
@@ -111,10 +111,6 @@ skipped s =
 -- the page as the subframe collector is fed it
 abbrev pub fedPage : State → List ℕ → Page
 fedPage s page = record { bytes = osnma page; satellite = s .satellite; week = s .next .week; time = s .next .time }
-
--- "If the word differs from the satellite's count: nothing. Otherwise its bytes go to that place and the count rises": whether the page is used
-unfoldable pub isUsed : Subframes → Page → Bool
-isUsed s p = eqb (wordOf (p .time)) (getD (changed s (p .week) (subframeOf (p .time)) .counts) (p .satellite - 1) 0)
 
 -- "An HKROOT message is also handed over whole, as its 15 bytes"; "HKROOT: NMA header, DSM header, 13-byte DSM block."
 abbrev pub hkrootOf : Subframes → ℕ → List ℕ

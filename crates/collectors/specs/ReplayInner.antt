@@ -3,11 +3,11 @@
 use Prim.Native.Nat.{ℕ, _≤_}
 use mathlib.Core.List.{List}
 use lib.ListN.{length}
-use Rattle.collectors.specs.Dsm.{Fed}
-use Rattle.collectors.specs.Promises.{meaning-dsm, state as dsmState}
+use Rattle.dsms.specs.Dsm.{Fed}
+use Rattle.dsms.specs.DsmPromises.{meaning-dsm, state as dsmState}
 use Rattle.collectors.specs.Replay.{Run}
 use Rattle.collectors.specs.ReplayPromises.{state, meaning-subframes, meaning-dsms}
-use Rattle.collectors.specs.declared.dsm.DsmFed.{DsmFed}
+use Rattle.dsms.specs.declared.dsm.DsmFed.{DsmFed}
 use Rattle.collectors.specs.declared.replay.PageReplay.{PageReplay}
 use Rattle.collectors.specs.declared.replay.Stepped.{Stepped}
 

@@ -5,8 +5,8 @@ use mathlib.Core.List.{List, [], _∷_}
 use mathlib.Core.Path.{_≡_}
 use Rattle.layouts.specs.Answer.{Answer, refused, gives}
 use Rattle.collectors.specs.Replay.{State, Time, Dsm, Begun, begun, Outcome, replay}
-use Rattle.collectors.specs.SubframePromises.{state as subframeState}
-use Rattle.collectors.specs.Promises.{state as dsmState}
+use Rattle.subframes.specs.SubframePromises.{state as subframeState}
+use Rattle.dsms.specs.DsmPromises.{state as dsmState}
 use Rattle.collectors.specs.declared.replay.PageReplay.{PageReplay}
 use Rattle.collectors.specs.declared.replay.Begun.{Begun as BegunAnswer}
 use Rattle.collectors.specs.declared.replay.Begun.the-variants.{Refused, Ready}

@@ -1,10 +1,2 @@
-// The collectors of messages. They see only what `layouts` promises.
-pub mod arguments;
-pub mod dsm;
-pub mod dsm_in_place;
-pub mod dsm_view;
-pub mod lines;
-pub mod mack_storage;
+// Both collectors at work: the page replay. It sees only what they and `layouts` promise.
 pub mod replay;
-pub mod subframe;
-pub mod trace;

@@ -1,14 +1,16 @@
 // A file of pages, replayed page by page.
-use crate::dsm;
-use crate::dsm::CollectDsm;
-use crate::dsm::DsmAnswer;
-use crate::dsm::DsmFed;
-use crate::subframe;
-use crate::subframe::CollectSubframe;
-use crate::subframe::SubframeAnswer;
-use crate::subframe::SubframeFed;
+use dsms::dsm;
+use dsms::dsm::CollectDsm;
+use dsms::dsm::DsmAnswer;
+use dsms::dsm::DsmFed;
 use layouts::answer::Number;
 use layouts::bits;
+use subframes::subframe;
+use subframes::subframe::CollectSubframe;
+use subframes::subframe::Message;
+use subframes::subframe::SubframeAnswer;
+use subframes::subframe::SubframeFed;
+use subframes::subframe::SubframeShown;
 ghost use mathlib.Core.Path.{_≡_};
 ghost use mathlib.Core.List.{List, [], _++_};
 ghost use mathlib.Core.Bool.{true, false};
@@ -16,9 +18,10 @@ ghost use Prim.Native.Nat.{ℕ, _+_, _*_, _^_, _≤_, _<_, min};
 ghost use lib.ListN.{length};
 ghost use Rattle.layouts.specs.Answer.{refusal as refusalOf};
 ghost use Rattle.layouts.specs.Bits.{field};
-ghost use Rattle.collectors.specs.Replay.{Time, new as newOf, later as laterOf, isCounted, osnma as osnmaOf, isUsed, hkrootOf, fedHkroot, passedOn, subframesIn, dsmsIn, one as oneOf, skipped as skippedOf, counted as countedOf, fed as fedOf, pageStep, andThen, replayed, pagesOf, areFew, newChecks, replayChecks};
-ghost use Rattle.collectors.specs.SubframePromises.{outcome as subframeOutcome, meaning-subframe, state as subframeState};
-ghost use Rattle.collectors.specs.Promises.{meaning-dsm, state as dsmState};
+ghost use Rattle.collectors.specs.Replay.{Time, new as newOf, later as laterOf, isCounted, osnma as osnmaOf, hkrootOf, fedHkroot, passedOn, subframesIn, dsmsIn, one as oneOf, skipped as skippedOf, counted as countedOf, fed as fedOf, pageStep, andThen, replayed, pagesOf, areFew, newChecks, replayChecks};
+ghost use Rattle.subframes.specs.Subframe.{isUsed, viewChecks};
+ghost use Rattle.subframes.specs.SubframePromises.{outcome as subframeOutcome, meaning-subframe, state as subframeState};
+ghost use Rattle.dsms.specs.DsmPromises.{meaning-dsm, state as dsmState};
 ghost use Rattle.collectors.specs.ReplayPromises.{state, meaning-subframes, meaning-dsms, BeginReplay, ReplayPages};
 ghost use Rattle.collectors.specs.ReplayInner.{dsmOutcome, ran, Room, InRange, AtMostOne};
 
@@ -210,9 +213,15 @@ fn is_used(collector: CollectSubframe, satellite: u8, week: u16, time: u32) -> b
     requires { ⌜ (1 ≤ satellite) × (satellite ≤ 36) × (time ≤ 604799) ⌝ }
     ensures { λ r. ⌜ ((h m bytes : List ℕ) → r ≡ isUsed (subframeState collector h m) (record { bytes = bytes; satellite = satellite; week = week; time = time })) ⌝ }
 {
-    let at = subframe::change(collector, week, (time / 30) as u16);
+    let word = (time / 2 % 15) as u8;
+    if collector.week != week {
+        return word == 0;
+    }
+    if collector.subframe != (time / 30) as u16 {
+        return word == 0;
+    }
     let i = (satellite - 1) as usize;
-    (time / 2 % 15) as u8 == at.counts[i]
+    word == collector.counts[i]
 }
 
 // An HKROOT message feeds the DSM collector: byte 1 is the DSM header, the block follows it.
@@ -518,6 +527,18 @@ fn totals_few(record: PageReplay) -> bool
     true
 }
 
+// The refusal number of the lent bytes and the record of the subframe collector, which its question answers for any satellite; 0 for none.
+fn subframes_refuse(collector: CollectSubframe, hkroot: &[u8], mack: &[u8]) -> u8
+    ensures { λ r. ⌜ r ≡ refusalOf (viewChecks (subframeState collector (now (hkroot .entry)) (now (mack .entry))) 1) ⌝ }
+{
+    let shown = subframe::view_shown(collector, hkroot, mack, Message::Hkroot, 1);
+    match shown {
+        SubframeShown::Refused(n) => n,
+        SubframeShown::Nothing => 0,
+        SubframeShown::Shown { first: _, many: _ } => 0,
+    }
+}
+
 // The refusal number; 0 for none.
 fn refuses(record: PageReplay, hkroot: &[u8], mack: &[u8], dsm: &[u8], budget: usize) -> u8
     ensures { λ r. ⌜ r ≡ refusalOf (replayChecks (state «record» (now (hkroot .entry)) (now (mack .entry)) (now (dsm .entry))) budget) ⌝ }
@@ -526,7 +547,7 @@ fn refuses(record: PageReplay, hkroot: &[u8], mack: &[u8], dsm: &[u8], budget: u
         return 1;
     }
     let collector = record.subframes;
-    let refusal = subframe::view_refuses(collector, hkroot, mack, 1);
+    let refusal = subframes_refuse(collector, hkroot, mack);
     if refusal != 0 {
         return refusal;
     }

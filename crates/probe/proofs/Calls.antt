@@ -5,27 +5,27 @@ use mathlib.Core.List.{List, []}
 use mathlib.Core.Bool.{Bool}
 use Prim.Native.Nat.{ℕ}
 use Rattle.layouts.specs.Answer.{Answer, Copied, shown, copied}
-use Rattle.collectors.specs.Dsm as d
-use Rattle.collectors.specs.Promises as dp
-use Rattle.collectors.specs.Subframe as s
-use Rattle.collectors.specs.SubframePromises as sp
-use Rattle.collectors.specs.Trace as tr
-use Rattle.collectors.specs.TracePromises as tp
-use Rattle.collectors.specs.Store as m
-use Rattle.collectors.specs.StorePromises as mp
-use Rattle.collectors.specs.declared.dsm.CollectDsm.{CollectDsm}
-use Rattle.collectors.specs.declared.dsm.DsmFed.{DsmFed}
-use Rattle.collectors.specs.declared.dsm.DsmShown.{DsmShown}
-use Rattle.collectors.specs.declared.subframe.CollectSubframe.{CollectSubframe}
-use Rattle.collectors.specs.declared.subframe.SubframeFed.{SubframeFed}
-use Rattle.collectors.specs.declared.subframe.SubframeShown.{SubframeShown}
-use Rattle.collectors.specs.declared.trace.TraceFed.{TraceFed}
-use Rattle.collectors.specs.declared.subframe.Message.{Message}
-use Rattle.collectors.specs.declared.subframe.HkrootMessage.{HkrootMessage}
-use Rattle.collectors.specs.declared.subframe.WordTaken.{WordTaken}
-use Rattle.collectors.specs.declared.mack_storage.MackStorage.{MackStorage}
-use Rattle.collectors.specs.declared.mack_storage.MackStored.{MackStored}
-use Rattle.collectors.specs.declared.mack_storage.MackFound.{MackFound}
+use Rattle.dsms.specs.Dsm as d
+use Rattle.dsms.specs.DsmPromises as dp
+use Rattle.subframes.specs.Subframe as s
+use Rattle.subframes.specs.SubframePromises as sp
+use Rattle.subframes.specs.Trace as tr
+use Rattle.subframes.specs.TracePromises as tp
+use Rattle.storage.specs.Store as m
+use Rattle.storage.specs.StorePromises as mp
+use Rattle.dsms.specs.declared.dsm.CollectDsm.{CollectDsm}
+use Rattle.dsms.specs.declared.dsm.DsmFed.{DsmFed}
+use Rattle.dsms.specs.declared.dsm.DsmShown.{DsmShown}
+use Rattle.subframes.specs.declared.subframe.CollectSubframe.{CollectSubframe}
+use Rattle.subframes.specs.declared.subframe.SubframeFed.{SubframeFed}
+use Rattle.subframes.specs.declared.subframe.SubframeShown.{SubframeShown}
+use Rattle.subframes.specs.declared.trace.TraceFed.{TraceFed}
+use Rattle.subframes.specs.declared.subframe.Message.{Message}
+use Rattle.subframes.specs.declared.subframe.HkrootMessage.{HkrootMessage}
+use Rattle.subframes.specs.declared.subframe.WordTaken.{WordTaken}
+use Rattle.storage.specs.declared.mack_storage.MackStorage.{MackStorage}
+use Rattle.storage.specs.declared.mack_storage.MackStored.{MackStored}
+use Rattle.storage.specs.declared.mack_storage.MackFound.{MackFound}
 use Rattle.probe.specs.Telling.{told, copiedTo, Viewed, viewed}
 use Rattle.probe.specs.Dsm as pd
 use Rattle.probe.specs.Subframe as ps

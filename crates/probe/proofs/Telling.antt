@@ -8,23 +8,23 @@ use lib.Seq.{take-length}
 use borrow.Author.Tests.{le-leb, lt-leb}
 use Rattle.layouts.specs.declared.dsm_header.DsmType.{DsmType}
 use Rattle.layouts.specs.declared.dsm_header.DsmType.the-variants.{Kroot, Pkr}
-use Rattle.collectors.specs.Promises.{meaning-dsm, meaning-shown as meaning-dsm-shown}
-use Rattle.collectors.specs.SubframePromises.{meaning-subframe, meaning-shown, meaning-word}
-use Rattle.collectors.specs.StorePromises.{meaning-store, meaning-found}
-use Rattle.collectors.specs.declared.subframe.SubframeAnswer.{SubframeAnswer}
-use Rattle.collectors.specs.declared.subframe.SubframeAnswer.the-variants.{Refused, Nothing, Complete}
-use Rattle.collectors.specs.declared.subframe.SubframeShown.{SubframeShown}
-use Rattle.collectors.specs.declared.subframe.SubframeShown.the-variants.{Shown, Nothing as NothingShown, Refused as NotShown}
-use Rattle.collectors.specs.declared.subframe.WordAnswer.{WordAnswer}
-use Rattle.collectors.specs.declared.subframe.WordAnswer.the-variants.{Refused as WordRefused, Unused, Used}
-use Rattle.collectors.specs.declared.dsm.DsmAnswer.{DsmAnswer}
-use Rattle.collectors.specs.declared.dsm.DsmAnswer.the-variants.{Refused as DsmRefused, Nothing as NoDsm, Complete as DsmComplete}
-use Rattle.collectors.specs.declared.dsm.DsmShown.{DsmShown}
-use Rattle.collectors.specs.declared.dsm.DsmShown.the-variants.{Shown as DsmIs, Nothing as NoDsmShown, Refused as DsmNotShown}
-use Rattle.collectors.specs.declared.mack_storage.StoreAnswer.{StoreAnswer}
-use Rattle.collectors.specs.declared.mack_storage.StoreAnswer.the-variants.{Stored, Refused as NotStored}
-use Rattle.collectors.specs.declared.mack_storage.MackFound.{MackFound}
-use Rattle.collectors.specs.declared.mack_storage.MackFound.the-variants.{At, Nothing as NoMack, Refused as NotFound}
+use Rattle.dsms.specs.DsmPromises.{meaning-dsm, meaning-shown as meaning-dsm-shown}
+use Rattle.subframes.specs.SubframePromises.{meaning-subframe, meaning-shown, meaning-word}
+use Rattle.storage.specs.StorePromises.{meaning-store, meaning-found}
+use Rattle.subframes.specs.declared.subframe.SubframeAnswer.{SubframeAnswer}
+use Rattle.subframes.specs.declared.subframe.SubframeAnswer.the-variants.{Refused, Nothing, Complete}
+use Rattle.subframes.specs.declared.subframe.SubframeShown.{SubframeShown}
+use Rattle.subframes.specs.declared.subframe.SubframeShown.the-variants.{Shown, Nothing as NothingShown, Refused as NotShown}
+use Rattle.subframes.specs.declared.subframe.WordAnswer.{WordAnswer}
+use Rattle.subframes.specs.declared.subframe.WordAnswer.the-variants.{Refused as WordRefused, Unused, Used}
+use Rattle.dsms.specs.declared.dsm.DsmAnswer.{DsmAnswer}
+use Rattle.dsms.specs.declared.dsm.DsmAnswer.the-variants.{Refused as DsmRefused, Nothing as NoDsm, Complete as DsmComplete}
+use Rattle.dsms.specs.declared.dsm.DsmShown.{DsmShown}
+use Rattle.dsms.specs.declared.dsm.DsmShown.the-variants.{Shown as DsmIs, Nothing as NoDsmShown, Refused as DsmNotShown}
+use Rattle.storage.specs.declared.mack_storage.StoreAnswer.{StoreAnswer}
+use Rattle.storage.specs.declared.mack_storage.StoreAnswer.the-variants.{Stored, Refused as NotStored}
+use Rattle.storage.specs.declared.mack_storage.MackFound.{MackFound}
+use Rattle.storage.specs.declared.mack_storage.MackFound.the-variants.{At, Nothing as NoMack, Refused as NotFound}
 use Rattle.probe.specs.Telling.{told, copiedTo}
 use Rattle.probe.specs.declared.tell.Told.{Told}
 

@@ -4,9 +4,9 @@ use mathlib.Core.Path.{_≡_, sym, ap, _∙_}
 use mathlib.Core.List.{List, []}
 use mathlib.Core.Bool.{Bool}
 use Prim.Native.Nat.{ℕ}
-use Rattle.collectors.specs.Dsm as d
-use Rattle.collectors.specs.Subframe as s
-use Rattle.collectors.specs.Store as m
+use Rattle.dsms.specs.Dsm as d
+use Rattle.subframes.specs.Subframe as s
+use Rattle.storage.specs.Store as m
 use Rattle.probe.specs.Telling.{Viewed}
 use Rattle.probe.specs.Dsm as pd
 use Rattle.probe.specs.Subframe as ps

@@ -3,9 +3,9 @@
 use Prim.Native.Nat.{ℕ}
 use mathlib.Core.List.{List, []}
 use mathlib.Core.Path.{_≡_}
-use Rattle.collectors.specs.Dsm.{State, Fed, new, feed, view}
-use Rattle.collectors.specs.Promises.{state}
-use Rattle.collectors.specs.declared.dsm.CollectDsm.{CollectDsm}
+use Rattle.dsms.specs.Dsm.{State, Fed, new, feed, view}
+use Rattle.dsms.specs.DsmPromises.{state}
+use Rattle.dsms.specs.declared.dsm.CollectDsm.{CollectDsm}
 use Rattle.probe.specs.Telling.{told, Viewed, viewed}
 use Rattle.probe.specs.declared.tell.Told.{Told}
 use Rattle.probe.specs.declared.dsm.DsmRecord.{DsmRecord}

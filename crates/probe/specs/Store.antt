@@ -3,9 +3,9 @@
 use Prim.Native.Nat.{ℕ}
 use mathlib.Core.List.{List}
 use mathlib.Core.Path.{_≡_}
-use Rattle.collectors.specs.Store.{State, Asked, Call, Outcome, newStorage, store, get}
-use Rattle.collectors.specs.StorePromises.{state, storageOf as placesOf}
-use Rattle.collectors.specs.declared.mack_storage.MackStorage.{MackStorage}
+use Rattle.storage.specs.Store.{State, Asked, Call, Outcome, newStorage, store, get}
+use Rattle.storage.specs.StorePromises.{state, storageOf as placesOf}
+use Rattle.storage.specs.declared.mack_storage.MackStorage.{MackStorage}
 use Rattle.probe.specs.Telling.{told}
 use Rattle.probe.specs.declared.tell.Told.{Told}
 use Rattle.probe.specs.declared.store.StoreRecord.{StoreRecord}

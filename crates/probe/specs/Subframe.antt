@@ -5,12 +5,12 @@ use mathlib.Core.List.{List, []}
 use mathlib.Core.Path.{_≡_}
 use mathlib.Core.Bool.{Bool, cond}
 use Rattle.layouts.specs.Answer.{Copied, copied}
-use Rattle.collectors.specs.Subframe.{State, Page, Fed, WordStep, takeWord, new, feed, view}
-use Rattle.collectors.specs.SubframePromises.{state, sizeOf, bufferOf}
-use Rattle.collectors.specs.Trace.{FedMany, feedAll}
-use Rattle.collectors.specs.declared.subframe.CollectSubframe.{CollectSubframe}
-use Rattle.collectors.specs.declared.subframe.Message.{Message}
-use Rattle.collectors.specs.declared.subframe.Message.the-variants.{Hkroot, Mack}
+use Rattle.subframes.specs.Subframe.{State, Page, Fed, WordStep, takeWord, new, feed, view}
+use Rattle.subframes.specs.SubframePromises.{state, sizeOf, bufferOf}
+use Rattle.subframes.specs.Trace.{FedMany, feedAll}
+use Rattle.subframes.specs.declared.subframe.CollectSubframe.{CollectSubframe}
+use Rattle.subframes.specs.declared.subframe.Message.{Message}
+use Rattle.subframes.specs.declared.subframe.Message.the-variants.{Hkroot, Mack}
 use Rattle.probe.specs.Telling.{told, Viewed, viewed}
 use Rattle.probe.specs.declared.tell.Told.{Told}
 use Rattle.probe.specs.declared.subframe.SubframeRecord.{SubframeRecord}

@@ -1,7 +1,7 @@
 // The DSM collector.
 use crate::tell;
 use crate::tell::Told;
-use collectors::dsm::CollectDsm;
+use dsms::dsm::CollectDsm;
 ghost use mathlib.Core.Path.{_≡_};
 ghost use Rattle.probe.specs.Dsm.{collectorOf, recordOf, DsmNew, DsmFeed, DsmView};
 
@@ -48,7 +48,7 @@ fn record_of(from: CollectDsm) -> DsmRecord
 pub extern "C" fn probe_dsm_new() -> DsmRecord
     ensures { λ r. ⌜ DsmNew r ⌝ }
 {
-    record_of(collectors::dsm::new())
+    record_of(dsms::dsm::new())
 }
 
 // `dsm::feed`.
@@ -62,7 +62,7 @@ pub extern "C" fn probe_dsm_feed(
     ensures { λ r. ⌜ DsmFeed collector (now (dsm .entry)) header (now (block .entry)) r (now (dsm .exit)) ⌝ }
 {
     let before = collector_of(collector);
-    let fed = collectors::dsm::feed(before, dsm, header, block);
+    let fed = dsms::dsm::feed(before, dsm, header, block);
     let answer = fed.answer;
     DsmCalled {
         collector: record_of(fed.collector),
@@ -76,8 +76,8 @@ pub extern "C" fn probe_dsm_view(collector: DsmRecord, dsm: &[u8], out: &mut [u8
     ensures { λ r. ⌜ DsmView collector (now (dsm .entry)) (now (out .entry)) r (now (out .exit)) ⌝ }
 {
     let from = collector_of(collector);
-    let shown = collectors::dsm::view_shown(from, dsm);
-    let part = collectors::dsm::view(from, dsm);
+    let shown = dsms::dsm::view_shown(from, dsm);
+    let part = dsms::dsm::view(from, dsm);
     tell::copy(part, out);
     tell::dsm_shown(shown)
 }

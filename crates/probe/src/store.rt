@@ -1,7 +1,7 @@
 // The MACK store.
 use crate::tell;
 use crate::tell::Told;
-use collectors::mack_storage::MackStorage;
+use storage::mack_storage::MackStorage;
 ghost use mathlib.Core.Path.{_≡_};
 ghost use Rattle.probe.specs.Store.{storageOf, recordOf, StoreNew, StoreStore, StoreGet};
 
@@ -67,7 +67,7 @@ fn record_of(from: MackStorage) -> StoreRecord
 pub extern "C" fn probe_store_new() -> StoreRecord
     ensures { λ r. ⌜ StoreNew r ⌝ }
 {
-    record_of(collectors::mack_storage::new())
+    record_of(storage::mack_storage::new())
 }
 
 // `mack_storage::store`.
@@ -84,7 +84,7 @@ pub extern "C" fn probe_store_store(
     ensures { λ r. ⌜ StoreStore storage (now (memory .entry)) (record { message = now (message .entry); asked = record { satellite = satellite; week = week; time = time }; status = status }) r (now (memory .exit)) ⌝ }
 {
     let before = storage_of(storage);
-    let stored = collectors::mack_storage::store(
+    let stored = storage::mack_storage::store(
         before,
         memory,
         message,
@@ -105,5 +105,5 @@ pub extern "C" fn probe_store_store(
 pub extern "C" fn probe_store_get(storage: StoreRecord, satellite: u8, week: u16, time: u32) -> Told
     ensures { λ r. ⌜ StoreGet storage (record { satellite = satellite; week = week; time = time }) r ⌝ }
 {
-    tell::found(collectors::mack_storage::get(storage_of(storage), satellite, week, time))
+    tell::found(storage::mack_storage::get(storage_of(storage), satellite, week, time))
 }

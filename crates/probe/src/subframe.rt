@@ -1,9 +1,9 @@
 // The subframe collector.
 use crate::tell;
 use crate::tell::Told;
-use collectors::subframe::CollectSubframe;
-use collectors::subframe::Message;
-use collectors::subframe::WordCount;
+use subframes::subframe::CollectSubframe;
+use subframes::subframe::Message;
+use subframes::subframe::WordCount;
 ghost use mathlib.Core.Path.{_≡_};
 ghost use Rattle.probe.specs.Subframe.{collectorOf, recordOf, messageOf, SubframeNew, SubframeFeed, SubframeFeedAll, SubframeView, SubframeHkrootMessage, WordTake};
 
@@ -75,7 +75,7 @@ fn message_of(mack: bool) -> Message
 pub extern "C" fn probe_subframe_new() -> SubframeRecord
     ensures { λ r. ⌜ SubframeNew r ⌝ }
 {
-    record_of(collectors::subframe::new())
+    record_of(subframes::subframe::new())
 }
 
 // `subframe::feed`.
@@ -92,7 +92,7 @@ pub extern "C" fn probe_subframe_feed(
     ensures { λ r. ⌜ SubframeFeed collector (now (hkroot .entry)) (now (mack .entry)) (record { bytes = now (page .entry); satellite = satellite; week = week; time = time }) r (now (hkroot .exit)) (now (mack .exit)) ⌝ }
 {
     let before = collector_of(collector);
-    let fed = collectors::subframe::feed(before, hkroot, mack, page, satellite, week, time);
+    let fed = subframes::subframe::feed(before, hkroot, mack, page, satellite, week, time);
     let answer = fed.answer;
     SubframeCalled {
         collector: record_of(fed.collector),
@@ -111,7 +111,7 @@ pub extern "C" fn probe_subframe_feed_all(
     ensures { λ r. ⌜ SubframeFeedAll collector (now (hkroot .entry)) (now (mack .entry)) (now (trace .entry)) r (now (hkroot .exit)) (now (mack .exit)) ⌝ }
 {
     let before = collector_of(collector);
-    let fed = collectors::trace::feed_all(before, hkroot, mack, trace);
+    let fed = subframes::trace::feed_all(before, hkroot, mack, trace);
     let answer = fed.answer;
     SubframeTraced {
         collector: record_of(fed.collector),
@@ -134,8 +134,8 @@ pub extern "C" fn probe_subframe_view<'a>(
 {
     let from = collector_of(collector);
     let message = message_of(of_mack);
-    let shown = collectors::subframe::view_shown(from, hkroot, mack, message, satellite);
-    let part = collectors::subframe::view(from, hkroot, mack, message, satellite);
+    let shown = subframes::subframe::view_shown(from, hkroot, mack, message, satellite);
+    let part = subframes::subframe::view(from, hkroot, mack, message, satellite);
     tell::copy(part, out);
     tell::subframe_shown(shown)
 }
@@ -151,7 +151,7 @@ pub extern "C" fn probe_subframe_hkroot_message(
     ensures { λ r. ⌜ SubframeHkrootMessage collector (now (hkroot .entry)) (now (mack .entry)) satellite r ⌝ }
 {
     let from = collector_of(collector);
-    let message = collectors::subframe::hkroot_message(from, hkroot, mack, satellite);
+    let message = subframes::subframe::hkroot_message(from, hkroot, mack, satellite);
     let answer = message.answer;
     let bytes = message.bytes;
     HkrootTold {

@@ -1,16 +1,16 @@
 // An answer as four numbers.
-use collectors::dsm::DsmAnswer;
-use collectors::dsm::DsmShown;
-use collectors::mack_storage::MackFound;
-use collectors::mack_storage::StoreAnswer;
-use collectors::subframe::SubframeAnswer;
-use collectors::subframe::SubframeShown;
-use collectors::subframe::WordAnswer;
+use dsms::dsm::DsmAnswer;
+use dsms::dsm::DsmShown;
 use layouts::dsm_header::DsmType;
+use storage::mack_storage::MackFound;
+use storage::mack_storage::StoreAnswer;
+use subframes::subframe::SubframeAnswer;
+use subframes::subframe::SubframeShown;
+use subframes::subframe::WordAnswer;
 ghost use mathlib.Core.Path.{_≡_};
-ghost use Rattle.collectors.specs.Promises.{meaning-dsm, meaning-shown as meaning-dsm-shown};
-ghost use Rattle.collectors.specs.SubframePromises.{meaning-subframe, meaning-shown, meaning-word};
-ghost use Rattle.collectors.specs.StorePromises.{meaning-store, meaning-found};
+ghost use Rattle.dsms.specs.DsmPromises.{meaning-dsm, meaning-shown as meaning-dsm-shown};
+ghost use Rattle.subframes.specs.SubframePromises.{meaning-subframe, meaning-shown, meaning-word};
+ghost use Rattle.storage.specs.StorePromises.{meaning-store, meaning-found};
 ghost use Rattle.probe.specs.Telling.{told, copiedTo};
 
 // Kind 0 is nothing, 1 an answer with at most three numbers, zeros behind them, 2 a refusal with its number first.

@@ -1,6 +1,6 @@
 // The program's arguments.
-use collectors::arguments;
-use collectors::arguments::Arguments;
+use texts::arguments;
+use texts::arguments::Arguments;
 ghost use mathlib.Core.Path.{_≡_};
 ghost use lib.ListN.{length};
 

@@ -6,9 +6,9 @@ mod pages;
 mod print;
 
 use asked::Asked;
-use collectors::arguments::Arguments;
 use collectors::replay;
 use collectors::replay::Begun;
+use texts::arguments::Arguments;
 
 fn run(satellite: u8, week: u16, time: u32) {
     let begun = replay::new(satellite, week, time);

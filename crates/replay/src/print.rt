@@ -1,10 +1,10 @@
 // What the program writes. Each function answers whether all of it was written, and says so on standard error where it was not.
-use collectors::lines;
 use collectors::replay::DsmDone;
 use collectors::replay::PageReplay;
 use collectors::replay::SubframeDone;
 use libc::STDERR_FILENO;
 use libc::STDOUT_FILENO;
+use texts::lines;
 
 fn line(bytes: &[u8]) -> bool {
     if io::write_all(STDOUT_FILENO, bytes) {

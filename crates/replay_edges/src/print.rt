@@ -1,7 +1,7 @@
 // What the program writes.
 use crate::pages::Seen;
-use collectors::lines;
 use libc::STDOUT_FILENO;
+use texts::lines;
 
 pub fn text(words: &[u8]) {
     io::write_all(STDOUT_FILENO, words);

@@ -2,15 +2,15 @@
 use crate::found;
 use crate::found::Found;
 use crate::records::Record;
-use collectors::dsm::CollectDsm;
-use collectors::dsm::DsmAnswer;
-use collectors::mack_storage::MackFound;
-use collectors::mack_storage::MackStorage;
-use collectors::mack_storage::StoreAnswer;
-use collectors::subframe::CollectSubframe;
-use collectors::subframe::Message;
-use collectors::subframe::SubframeAnswer;
+use dsms::dsm::CollectDsm;
+use dsms::dsm::DsmAnswer;
 use layouts::dsm_header::DsmType;
+use storage::mack_storage::MackFound;
+use storage::mack_storage::MackStorage;
+use storage::mack_storage::StoreAnswer;
+use subframes::subframe::CollectSubframe;
+use subframes::subframe::Message;
+use subframes::subframe::SubframeAnswer;
 
 pub struct Held {
     pub subframe: CollectSubframe,
@@ -25,9 +25,9 @@ pub struct Called {
 
 pub fn new() -> Held {
     Held {
-        subframe: collectors::subframe::new(),
-        dsm: collectors::dsm::new(),
-        storage: collectors::mack_storage::new(),
+        subframe: subframes::subframe::new(),
+        dsm: dsms::dsm::new(),
+        storage: storage::mack_storage::new(),
     }
 }
 
@@ -63,8 +63,8 @@ fn pair_shown<'a>(
     satellite: u8,
     expected: &[u8],
 ) -> bool {
-    let h = collectors::subframe::view(collector, hkroot, mack, Message::Hkroot, satellite);
-    let m = collectors::subframe::view(collector, hkroot, mack, Message::Mack, satellite);
+    let h = subframes::subframe::view(collector, hkroot, mack, Message::Hkroot, satellite);
+    let m = subframes::subframe::view(collector, hkroot, mack, Message::Mack, satellite);
     if expected.len() != 75 {
         return expected.len() == 0 && h.len() == 0 && m.len() == 0;
     }
@@ -92,7 +92,7 @@ pub fn page(
     let satellite = r.a as u8;
     let week = r.b as u16;
     let time = r.c as u32;
-    let fed = collectors::subframe::feed(held.subframe, hkroot, mack, msg, satellite, week, time);
+    let fed = subframes::subframe::feed(held.subframe, hkroot, mack, msg, satellite, week, time);
     let collector = fed.collector;
     let answer = fed.answer;
     let fits = pair_shown(collector, hkroot, mack, satellite, expected);
@@ -127,10 +127,10 @@ pub fn block(held: Held, dsm: &mut [u8], r: Record, msg: &[u8], expected: &[u8])
     if 255 < r.a {
         return unchanged(held);
     }
-    let fed = collectors::dsm::feed(held.dsm, dsm, r.a as u8, msg);
+    let fed = dsms::dsm::feed(held.dsm, dsm, r.a as u8, msg);
     let collector = fed.collector;
     let answer = fed.answer;
-    let fits = check::same(collectors::dsm::view(collector, dsm), expected);
+    let fits = check::same(dsms::dsm::view(collector, dsm), expected);
     let mut next = held;
     next.dsm = collector;
     Called {
@@ -162,7 +162,7 @@ pub fn store(held: Held, memory: &mut [u8], r: Record, msg: &[u8], expected: &[u
     }
     let status = msg[0];
     let message = &msg[1..];
-    let stored = collectors::mack_storage::store(
+    let stored = storage::mack_storage::store(
         held.storage,
         memory,
         message,
@@ -193,7 +193,7 @@ pub fn get(held: Held, memory: &[u8], r: Record, msg: &[u8], expected: &[u8]) ->
         return unchanged(held);
     }
     let none = msg.len() == 0 && expected.len() == 0;
-    let answer = collectors::mack_storage::get(held.storage, r.a as u8, r.b as u16, r.c as u32);
+    let answer = storage::mack_storage::get(held.storage, r.a as u8, r.b as u16, r.c as u32);
     match answer {
         MackFound::Refused(n) => Called {
             held,

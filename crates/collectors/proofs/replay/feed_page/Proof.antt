@@ -1,6 +1,6 @@
 -- `replay::feed_page`: a page step of the definition, one function for each part.
 -- Assumes nothing.
-use Rattle.collectors.specs.SubframePromises.{outcome}
+use Rattle.subframes.specs.SubframePromises.{outcome}
 use Rattle.collectors.specs.ReplayPromises.{state}
 use Rattle.collectors.proofs.PageSteps.{fed-is}
 use borrow.Author.Needs.{needs}

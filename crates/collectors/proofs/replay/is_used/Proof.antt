@@ -1,20 +1,23 @@
--- `replay::is_used`: the word against the count after a change.
+-- `replay::is_used`: the word against the count, which is 0 after a change.
 -- Assumes nothing.
-use Rattle.collectors.specs.Subframe.{State}
-use Rattle.collectors.specs.Replay.{isUsed}
-use lib.ListN.{getD}
-use lib.Dec.{eqb}
-use Prim.Native.Nat.{_-_, _/_, _%_}
-use mathlib.Core.Path.{ap}
+use native.Mathlib.Omega.{arith}
+use Rattle.collectors.proofs.Taken.{used-other-week, used-other-subframe, used-same}
+use Rattle.subframes.specs.SubframePromises.{state}
 use borrow.Author.Needs.{needs}
 use Rattle.collectors.proofs.replay.is_used.Statement.{statement}
 use Rattle.collectors.proofs.replay.is_used.Tie as tie
 
-cast-change : tie.Need-cast-change
-cast-change c = search needs
+cast-word : tie.Need-cast-word
+cast-word c = search needs
 
-change-requires : tie.Need-change-requires
-change-requires c κs = search needs
+returns : tie.Need-returns
+returns c = let a = c .before .args in λ h m bytes. used-other-week (state (a .t1) h m) (record { bytes = bytes; satellite = a .satellite; week = a .week; time = a .time }) (omega arith) (c .if1 .taken)
+
+cast-if2 : tie.Need-cast-if2
+cast-if2 c = search needs
+
+returns-2 : tie.Need-returns-2
+returns-2 c = let a = c .before .before .args in λ h m bytes. used-other-subframe (state (a .t1) h m) (record { bytes = bytes; satellite = a .satellite; week = a .week; time = a .time }) (omega arith) (c .before .if1 .left) (c .if2 .taken)
 
 sub-i : tie.Need-sub-i
 sub-i c = search needs
@@ -22,17 +25,13 @@ sub-i c = search needs
 cast-i : tie.Need-cast-i
 cast-i c = search needs
 
-cast-result : tie.Need-cast-result
-cast-result c = search needs
-
 element-copy-out-result : tie.Need-element-copy-out-result
 element-copy-out-result c = search needs
 
-returns : tie.Need-returns
-unfolding isUsed
-returns c = λ h m bytes. let a = c .before .before .args in ap (λ (x : State). eqb (a .time / 2 % 15) (getD (x .counts) (a .satellite - 1) 0)) (c .before .change .ensures h m)
+returns-3 : tie.Need-returns-3
+returns-3 c = let a = c .before .before .before .args in λ h m bytes. used-same (state (a .t1) h m) (record { bytes = bytes; satellite = a .satellite; week = a .week; time = a .time }) (omega arith) (c .before .before .if1 .left) (c .before .if2 .left)
 
 pub is-used-spec : {M : Type 1} → statement M
 is-used-spec =
     tie.close
-    (tie.spec cast-change change-requires sub-i cast-i cast-result element-copy-out-result returns)
+    (tie.spec cast-word returns cast-if2 returns-2 sub-i cast-i element-copy-out-result returns-3)

@@ -8,8 +8,8 @@ use Rattle.collectors.proofs.replay.refuses.Tie as tie
 returns : tie.Need-returns
 returns c = search other-dsm-bytes
 
-view-refuses-requires : tie.Need-view-refuses-requires
-view-refuses-requires c κs = search needs
+subframes-refuse-requires : tie.Need-subframes-refuse-requires
+subframes-refuse-requires c κs = search needs
 
 returns-2 : tie.Need-returns-2
 returns-2 c = search other-subframes
@@ -40,7 +40,7 @@ refuses-spec =
     tie.close
     (tie.spec
     returns
-    view-refuses-requires
+    subframes-refuse-requires
     returns-2
     returns-3
     totals-few-requires

@@ -1,7 +1,7 @@
 -- `replay::tally`: each total goes on by at most one.
 -- Assumes nothing.
 use mathlib.Core.Bool.{not}
-use Rattle.collectors.specs.SubframePromises.{outcome}
+use Rattle.subframes.specs.SubframePromises.{outcome}
 use Rattle.collectors.specs.ReplayInner.{dsmOutcome}
 use Rattle.collectors.specs.ReplayPromises.{state}
 use native.Mathlib.Omega.{arith}

@@ -1,0 +1,7 @@
+pub mod Blocks
+pub mod DsmRecovery
+pub mod DsmRun
+pub mod DsmUnique
+pub mod DsmViewUnique
+pub mod Kept
+pub mod Passed

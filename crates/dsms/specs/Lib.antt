@@ -1,0 +1,5 @@
+pub mod Dsm
+pub mod DsmPromises
+pub mod DsmRecovery
+pub mod DsmView
+pub mod DsmViewInner

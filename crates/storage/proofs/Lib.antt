@@ -1,0 +1,8 @@
+pub mod Bytes
+pub mod Searches
+pub mod StoreKept
+pub mod StoreRecord
+pub mod StoreSound
+pub mod StoreTwice
+pub mod StoreUnique
+pub mod Stored

@@ -1,0 +1,4 @@
+pub mod Store
+pub mod StoreInner
+pub mod StoreKeeps
+pub mod StorePromises

@@ -1,0 +1,2 @@
+// The MACK store. It sees only what `layouts` promises.
+pub mod mack_storage;

@@ -1,0 +1,293 @@
+-- Laws of a trace of pages.
+-- Assumes nothing.
+use Prim.Native.Nat.{ℕ, zero, suc, _+_, _-_, _*_, _/_, _%_, _≤_, _<_}
+use native.Mathlib.Omega.{arith}
+use mathlib.Core.Path.{_≡_, refl, sym, ap, _∙_, subst}
+use mathlib.Core.List.{List, [], _∷_}
+use mathlib.Core.Bool.{Bool, true, false, cond, not, _&&_}
+use lib.ListN.{length, getD, set, take, drop, length-set, length-take, length-drop, replicate}
+use lib.Dec.{leb, eqb}
+use borrow.Author.Tests.{le-leb, le-ltb, lt-ltb, eq-eqb, ne-eqb, eqb-true, ltb-false, not-false}
+use Rattle.layouts.specs.Answer.{Answer, refused, nothing, gives, refusal}
+use Rattle.layouts.proofs.Answers.{none-fails}
+use Rattle.subframes.specs.Subframe.{isUsed, State, Page, Fed, wordOf, subframeOf, small, viewChecks, feedChecks, changed, put4, answerAt, used, offered, feed}
+use Rattle.subframes.specs.Trace.{entryAt, entriesFrom, entries, FedMany, feedEach, traceChecks, feedAll}
+use Rattle.subframes.specs.TraceInner.{pageOf, stateOf, entryChecks, answerOf, usedOf, completesOf, Offered, PageFed, endsWith}
+use Rattle.subframes.specs.declared.trace.Entry.{Entry}
+use Rattle.subframes.specs.declared.trace.PageTaken.{PageTaken}
+use Rattle.subframes.specs.declared.trace.PageTaken.the-variants.{Unused, Used, Completes}
+use Rattle.subframes.proofs.Pages.{Fine, fine, answer-15, answer-less, used-is, offered-not, offered-used, feed-refused, feed-admitted}
+
+-- The refusals of an entry.
+module _ (n w t : ℕ) where
+  pub no-satellite : n < 1 → 2 ≡ refusal (entryChecks n w t)
+  unfolding refusal
+  no-satellite h = rw (lt-ltb n 1 h)
+
+  pub high-satellite : 1 ≤ n → 36 < n → 2 ≡ refusal (entryChecks n w t)
+  unfolding refusal
+  high-satellite h0 h = rw (le-ltb n 1 h0, lt-ltb 36 n h)
+
+  pub high-week : 1 ≤ n → n ≤ 36 → 4095 < w → 3 ≡ refusal (entryChecks n w t)
+  unfolding refusal
+  high-week h0 h1 h = rw (le-ltb n 1 h0, le-ltb 36 n h1, lt-ltb 4095 w h)
+
+  pub high-time : 1 ≤ n → n ≤ 36 → w ≤ 4095 → 604799 < t → 4 ≡ refusal (entryChecks n w t)
+  unfolding refusal
+  high-time h0 h1 h2 h = rw (le-ltb n 1 h0, le-ltb 36 n h1, le-ltb 4095 w h2, lt-ltb 604799 t h)
+
+  pub right-entry : 1 ≤ n → n ≤ 36 → w ≤ 4095 → t ≤ 604799 → 0 ≡ refusal (entryChecks n w t)
+  unfolding refusal
+  right-entry h0 h1 h2 h3 = rw (le-ltb n 1 h0, le-ltb 36 n h1, le-ltb 4095 w h2, le-ltb 604799 t h3)
+
+-- and of a trace
+module _ (s : State) (trace : List ℕ) where
+  pub not-whole : (length trace % 12 ≡ 0 → ⊥) → 1 ≡ refusal (traceChecks s trace)
+  unfolding refusal
+  not-whole ne = rw (ne-eqb (length trace % 12) 0 ne)
+
+  pub whole : {q : ℕ} → length trace % 12 ≡ 0 → q ≡ refusal (viewChecks s 1) → q ≡ refusal (traceChecks s trace)
+  unfolding refusal
+  whole e h = rw (eq-eqb (length trace % 12) 0 e) h
+
+-- A record and lent bytes that are not refused.
+pub record Sound (s : State) : Type 0 where
+  pub h540 : length (s .hkroot) ≡ 540
+  pub m2160 : length (s .mack) ≡ 2160
+  pub week-fits : s .week ≤ 4095
+  pub subframe-fits : s .subframe ≤ 20159
+  pub all-small : small (s .counts) ≡ true
+
+pub sound : (s : State) → refusal (viewChecks s 1) ≡ 0 → Sound s
+sound s e =
+    let f = none-fails (viewChecks s 1) tt e in
+    record {
+      h540 = eqb-true (length (s .hkroot)) 540 (not-false _ (f .0));
+      m2160 = eqb-true (length (s .mack)) 2160 (not-false _ (f .1 .0));
+      week-fits = ltb-false 4095 (s .week) (f .1 .1 .0);
+      subframe-fits = ltb-false 20159 (s .subframe) (f .1 .1 .1 .0);
+      all-small = not-false _ (f .1 .1 .1 .1 .0);
+    }
+
+-- of such a one only the entry can be refused
+pub entry-refusal : (s : State) (p : Page) {q : ℕ} → Sound s → length (p .bytes) ≡ 5 → q ≡ refusal (entryChecks (p .satellite) (p .week) (p .time)) → q ≡ refusal (feedChecks s p)
+unfolding refusal
+entry-refusal s p d l e =
+    rw (eq-eqb (length (p .bytes)) 5 l, eq-eqb (length (s .hkroot)) 540 (d .h540), eq-eqb (length (s .mack)) 2160 (d .m2160), le-ltb 4095 (s .week) (d .week-fits), le-ltb 20159 (s .subframe) (d .subframe-fits), d .all-small)
+    e
+
+-- A change of week or subframe leaves the counts.
+pub same-subframe : {week subframe to-week to-subframe : ℕ} (counts h m : List ℕ) → week ≡ to-week → subframe ≡ to-subframe → stateOf to-week to-subframe counts h m ≡ changed (stateOf week subframe counts h m) to-week to-subframe
+unfolding changed
+same-subframe {week} {subframe} counts h m e f = rw (← e, ← f, eq-eqb week week refl, eq-eqb subframe subframe refl)
+
+-- The page of a satellite.
+module _ (counts h m bytes : List ℕ) (i w : ℕ) where
+  pub not-next : (getD counts i 0 ≡ w → ⊥) → Offered counts h m bytes i w Unused counts h m
+  not-next ne =
+      let e : eqb w (getD counts i 0) ≡ false = ne-eqb w (getD counts i 0) (λ q. ne (sym q)) in
+      record { fed = λ week subframe. offered-not (stateOf week subframe counts h m) bytes i w e; is-used = sym e }
+
+  module _ {x y : List ℕ} (same : getD counts i 0 ≡ w) (ex : x ≡ set h (15 * i + w) (getD bytes 0 0)) (ey : y ≡ put4 m (4 * (15 * i + w)) bytes) where
+    next : (r : PageTaken) → ((week subframe : ℕ) → answerOf r week subframe ≡ answerAt (w + 1) week subframe) → usedOf r ≡ true → Offered counts h m bytes i w r (set counts i (w + 1)) x y
+    next r ea u =
+        let e : eqb w (getD counts i 0) ≡ true = eq-eqb w (getD counts i 0) (sym same) in
+        let place : 4 * (15 * i + w) ≡ 60 * i + 4 * w = omega arith in
+        record {
+          fed = λ week subframe. offered-used (stateOf week subframe counts h m) bytes i w e (used-is (stateOf week subframe counts h m) bytes i w ex (rw place at ey) refl (ea week subframe));
+          is-used = u ∙ sym e;
+        }
+
+    pub next-used : (w ≡ 14 → ⊥) → Offered counts h m bytes i w Used (set counts i (w + 1)) x y
+    next-used ne = next Used (λ week subframe. answer-less (w + 1) week subframe (λ q. ne (omega arith))) refl
+
+    pub next-last : w ≡ 14 → Offered counts h m bytes i w Completes (set counts i (w + 1)) x y
+    next-last e = next Completes (λ week subframe. answer-15 (w + 1) week subframe (omega arith)) refl
+
+-- What is answered where a trace ends before an entry.
+module _ (n q : ℕ) where
+  pub not-first : (n ≡ 0 → ⊥) → nothing ≡ endsWith n q
+  not-first ne = rw (ne-eqb n 0 ne)
+
+  pub is-first : n ≡ 0 → refused q ≡ endsWith n q
+  is-first e = rw (eq-eqb n 0 e)
+
+-- An entry's numbers.
+pub entry-is : (trace : List ℕ) (k : ℕ) {w t : ℕ} → w ≡ getD trace (12 * k + 1) 0 * 256 + getD trace (12 * k + 2) 0
+    → t ≡ ((getD trace (12 * k + 3) 0 * 256 + getD trace (12 * k + 4) 0) * 256 + getD trace (12 * k + 5) 0) * 256 + getD trace (12 * k + 6) 0
+    → _≡_ {A = Page} (record { bytes = take 5 (drop (12 * k + 7) trace); satellite = getD trace (12 * k) 0; week = w; time = t }) (entryAt trace k)
+unfolding entryAt
+entry-is trace k e f = rw (e, f)
+
+-- An admitted page.
+module _ (week subframe : ℕ) (counts h m : List ℕ) (e : Entry) (bytes : List ℕ) (z : refusal (feedChecks (stateOf week subframe counts h m) (pageOf e bytes)) ≡ 0) where
+  pub admitted-entry : Fine (stateOf week subframe counts h m) (pageOf e bytes)
+  admitted-entry = fine (stateOf week subframe counts h m) (pageOf e bytes) (sym z) refl
+
+  pub page-fed : {cs cs′ h′ m′ : List ℕ} {r : PageTaken} → ((h m : List ℕ) → stateOf (e .week) (e .time / 30) cs h m ≡ changed (stateOf week subframe counts h m) (e .week) (e .time / 30))
+      → Offered cs h m bytes (e .satellite - 1) (e .time / 2 - 15 * (e .time / 30)) r cs′ h′ m′ → PageFed (stateOf week subframe counts h m) (pageOf e bytes) r cs′ h′ m′
+  unfolding isUsed
+  page-fed {cs} {cs′} {h′} {m′} {r} er o =
+      let word : e .time / 2 - 15 * (e .time / 30) ≡ wordOf (e .time) = omega arith in
+      let o : Offered cs h m bytes (e .satellite - 1) (wordOf (e .time)) r cs′ h′ m′ = rw word at o in
+      record {
+        fed = feed-admitted (stateOf week subframe counts h m) (pageOf e bytes) (sym z) refl (er h m) (o .fed (e .week) (e .time / 30));
+        is-used = o .is-used ∙ ap (λ (s : State). eqb (wordOf (e .time)) (getD (s .counts) (e .satellite - 1) 0)) (er h m);
+      }
+
+-- A sound state stays so.
+both : (a b : Bool) → (a && b) ≡ true → (a ≡ true) × (b ≡ true)
+both true b e = (refl, e)
+both false b e = let z : _≡_ {A = Bool} false true = e in (z, cc)
+
+small-set : (l : List ℕ) (i v : ℕ) → v ≤ 15 → small l ≡ true → small (set l i v) ≡ true
+unfolding small
+small-set [] i v h e = refl
+small-set (n ∷ l) zero v h e = rw (le-leb v 15 h) (both (leb n 15) (small l) e .1)
+small-set (n ∷ l) (suc i) v h e = let f = both (leb n 15) (small l) e in rw (f .0) (small-set l i v h (f .1))
+
+sound-changed : (s : State) (week subframe : ℕ) → Sound s → week ≤ 4095 → subframe ≤ 20159 → Sound (changed s week subframe)
+unfolding changed small
+sound-changed s week subframe d hw hs = go (eqb (s .week) week && eqb (s .subframe) subframe)
+  where
+    go : (b : Bool) → Sound (cond b s (record { week = week; subframe = subframe; counts = replicate 36 0; hkroot = s .hkroot; mack = s .mack }))
+    go true = d
+    go false = record { h540 = d .h540; m2160 = d .m2160; week-fits = hw; subframe-fits = hs; all-small = refl }
+
+sound-offered : (s : State) (bytes : List ℕ) (i w : ℕ) → Sound s → w < 15 → Sound (offered s bytes i w .state)
+unfolding offered used
+sound-offered s bytes i w d h = go (eqb w (getD (s .counts) i 0))
+  where
+    go : (b : Bool) → Sound (cond {A = Fed} b (used s bytes i w) (record { state = s; answer = nothing }) .state)
+    go true =
+        record {
+          h540 = simp length-set (d .h540);
+          m2160 = simp length-set (d .m2160);
+          week-fits = d .week-fits;
+          subframe-fits = d .subframe-fits;
+          all-small = small-set (s .counts) i (w + 1) (omega arith) (d .all-small);
+        }
+    go false = d
+
+sound-fed : (s : State) (p : Page) → Sound s → refusal (feedChecks s p) ≡ 0 → Sound (feed s p .state)
+sound-fed s p d z =
+    let f = none-fails (feedChecks s p) tt z in
+    let week : p .week ≤ 4095 = ltb-false 4095 (p .week) (f .1 .1 .1 .1 .1 .1 .1 .1 .0) in
+    let time : p .time ≤ 604799 = ltb-false 604799 (p .time) (f .1 .1 .1 .1 .1 .1 .1 .1 .1 .0) in
+    subst (λ (x : Fed). Sound (x .state)) (feed-admitted s p (sym z) refl refl refl)
+    (sound-offered (changed s (p .week) (subframeOf (p .time))) (p .bytes) (p .satellite - 1) (wordOf (p .time)) (sound-changed s (p .week) (subframeOf (p .time)) d week (omega arith)) (omega arith))
+
+-- Entries one by one.
+module _ (n : ℕ) (s : State) (p : Page) (ps : List Page) where
+  each-ends : {q : ℕ} → q ≡ refusal (feedChecks s p) → (q ≡ 0 → ⊥) → _≡_ {A = FedMany} (record { state = s; answer = endsWith n q; consumed = n }) (feedEach n s (p ∷ ps))
+  unfolding feedEach
+  each-ends e ne = rw (← feed-refused s p e ne)
+
+  each-goes-on : {f : Fed} → f ≡ feed s p → f .answer ≡ nothing → feedEach (n + 1) (f .state) ps ≡ feedEach n s (p ∷ ps)
+  unfolding feedEach
+  each-goes-on e a = let b : feed s p .answer ≡ nothing = sym (ap (λ (x : Fed). x .answer) e) ∙ a in rw (b, ap (λ (x : Fed). x .state) e)
+
+  each-completes : {f : Fed} {l : List ℕ} → f ≡ feed s p → f .answer ≡ gives l → _≡_ {A = FedMany} (record { state = f .state; answer = gives l; consumed = n + 1 }) (feedEach n s (p ∷ ps))
+  unfolding feedEach
+  each-completes {f} {l} e a = let b : feed s p .answer ≡ gives l = sym (ap (λ (x : Fed). x .answer) e) ∙ a in rw (b, ap (λ (x : Fed). x .state) e)
+
+entries-more : (trace : List ℕ) (k n : ℕ) → k < n → entriesFrom trace k (n - k) ≡ entryAt trace k ∷ entriesFrom trace (k + 1) (n - (k + 1))
+unfolding entriesFrom
+entries-more trace k n h = let e : n - k ≡ suc (n - (k + 1)) = omega arith in rw e
+
+entries-none : (trace : List ℕ) (k n : ℕ) → n ≤ k → entriesFrom trace k (n - k) ≡ []
+unfolding entriesFrom
+entries-none trace k n h = let e : n - k ≡ 0 = omega arith in rw e
+
+-- Before each turn: feeding what is left one by one gives what feeding all does.
+pub record Left (s₀ : State) (trace : List ℕ) (k : ℕ) (s : State) : Type 0 where
+  pub few : k ≤ length trace / 12
+  pub first : Sound s₀
+  pub fine : Sound s
+  pub rest : feedEach k s (entriesFrom trace k (length trace / 12 - k)) ≡ feedEach 0 s₀ (entries trace)
+
+pub turn-first : (s : State) (trace : List ℕ) → refusal (viewChecks s 1) ≡ 0 → Left s trace 0 s
+turn-first s trace z = let e : length trace / 12 - 0 ≡ length trace / 12 = omega arith in record { few = omega arith; first = sound s z; fine = sound s z; rest = rw e }
+
+-- the page of entry k, as the code cuts it out
+abbrev pagePart : List ℕ → ℕ → List ℕ
+pagePart trace k = take (12 * k + 12 - (12 * k + 7)) (drop (12 * k + 7) trace)
+
+page-part : (trace : List ℕ) (k : ℕ) → pagePart trace k ≡ take 5 (drop (12 * k + 7) trace)
+page-part trace k = let e : 12 * k + 12 - (12 * k + 7) ≡ 5 = omega arith in rw e
+
+page-5 : (trace : List ℕ) (k : ℕ) → k < length trace / 12 → length (pagePart trace k) ≡ 5
+page-5 trace k h = simp (length-take, length-drop) (omega arith)
+
+module _ {s₀ s : State} {trace : List ℕ} {k : ℕ} (d : Left s₀ trace k s) where
+  pub turn-none : {x : FedMany} → length trace / 12 ≤ k → x ≡ record { state = s; answer = nothing; consumed = k } → x ≡ feedEach 0 s₀ (entries trace)
+  unfolding feedEach
+  turn-none h ex = ex ∙ rw (entries-none trace k (length trace / 12) h) at (d .rest)
+
+  module _ (e : Entry) (h : k < length trace / 12) (pe : pageOf e (take 5 (drop (12 * k + 7) trace)) ≡ entryAt trace k) {q : ℕ} (eq : q ≡ refusal (entryChecks (e .satellite) (e .week) (e .time))) where
+    later : List Page
+    later = entriesFrom trace (k + 1) (length trace / 12 - (k + 1))
+
+    the-page : entryAt trace k ≡ pageOf e (pagePart trace k)
+    the-page = sym (ap (pageOf e) (page-part trace k) ∙ pe)
+
+    ahead : feedEach k s (pageOf e (pagePart trace k) ∷ later) ≡ feedEach 0 s₀ (entries trace)
+    unfolding later
+    ahead = rw (← the-page, ← entries-more trace k (length trace / 12) h) (d .rest)
+
+    number : q ≡ refusal (feedChecks s (pageOf e (pagePart trace k)))
+    number = entry-refusal s (pageOf e (pagePart trace k)) (d .fine) (page-5 trace k h) eq
+
+    pub turn-ends : {x : FedMany} {a : Answer} → (q ≡ 0 → ⊥) → a ≡ endsWith k q → x ≡ record { state = s; answer = a; consumed = k } → x ≡ feedEach 0 s₀ (entries trace)
+    turn-ends ne ea ex = ex ∙ rw ea (each-ends k s (pageOf e (pagePart trace k)) later number ne ∙ ahead)
+
+    module _ (z : q ≡ 0) where
+      pub turn-asks : refusal (feedChecks s (pageOf e (pagePart trace k))) ≡ 0
+      turn-asks = sym number ∙ z
+
+      pub turn-time : e .time ≤ 604799
+      turn-time = fine s (pageOf e (pagePart trace k)) number z .in-week
+
+      module _ (r : PageTaken) {cs hk mk : List ℕ} (f : PageFed s (pageOf e (pagePart trace k)) r cs hk mk) where
+        pub turn-completes : {x : FedMany} {a : Answer} → completesOf r ≡ true → a ≡ answerAt 15 (e .week) (e .time / 30)
+            → x ≡ record { state = stateOf (e .week) (e .time / 30) cs hk mk; answer = a; consumed = k + 1 } → x ≡ feedEach 0 s₀ (entries trace)
+        turn-completes c ea ex =
+            ex ∙ rw (ea, ← answer-15 15 (e .week) (e .time / 30) refl) (each-completes k s (pageOf e (pagePart trace k)) later (f .fed) (is-gives r c) ∙ ahead)
+          where
+            is-gives : (r : PageTaken) → completesOf r ≡ true → answerOf r (e .week) (e .time / 30) ≡ gives (e .week ∷ 30 * (e .time / 30) ∷ [])
+            is-gives Unused c = cc
+            is-gives Used c = cc
+            is-gives Completes c = refl
+
+        pub turn-sound : Sound (stateOf (e .week) (e .time / 30) cs hk mk)
+        turn-sound = subst (λ (x : Fed). Sound (x .state)) (sym (f .fed)) (sound-fed s (pageOf e (pagePart trace k)) (d .fine) turn-asks)
+
+        pub turn-goes-on : completesOf r ≡ false → Left s₀ trace (k + 1) (stateOf (e .week) (e .time / 30) cs hk mk)
+        unfolding later
+        turn-goes-on c =
+            record {
+              few = omega arith;
+              first = d .first;
+              fine = turn-sound;
+              rest = each-goes-on k s (pageOf e (pagePart trace k)) later (f .fed) (is-nothing r c) ∙ ahead;
+            }
+          where
+            is-nothing : (r : PageTaken) → completesOf r ≡ false → answerOf r (e .week) (e .time / 30) ≡ nothing
+            is-nothing Unused c = refl
+            is-nothing Used c = refl
+            is-nothing Completes c = cc
+
+-- The whole call.
+module _ (s : State) (trace : List ℕ) {q : ℕ} (e : q ≡ refusal (traceChecks s trace)) where
+  pub all-refused : (q ≡ 0 → ⊥) → _≡_ {A = FedMany} (record { state = s; answer = refused q; consumed = 0 }) (feedAll s trace)
+  unfolding feedAll
+  all-refused ne = rw (← e, ne-eqb q 0 ne)
+
+  module _ (z : q ≡ 0) where
+    pub all-asks : refusal (viewChecks s 1) ≡ 0
+    unfolding refusal
+    all-asks = let f = none-fails (traceChecks s trace) tt (sym e ∙ z) in rw (f .0) at (sym e ∙ z)
+
+    pub all-fed : {r : FedMany} → r ≡ feedEach 0 s (entries trace) → r ≡ feedAll s trace
+    unfolding feedAll
+    all-fed h = let g : feedAll s trace ≡ feedEach 0 s (entries trace) = rw (← e, z) in h ∙ sym g

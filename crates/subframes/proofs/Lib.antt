@@ -1,0 +1,6 @@
+pub mod Entries
+pub mod Pages
+pub mod SubframeRecovery
+pub mod SubframeRun
+pub mod SubframeUnique
+pub mod TraceUnique

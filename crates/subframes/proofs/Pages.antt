@@ -1,0 +1,338 @@
+-- Laws of the subframe collector's steps.
+-- Assumes nothing.
+use Prim.Native.Nat.{ℕ, zero, suc, _+_, _-_, _*_, _≤_, _<_}
+use native.Mathlib.Numerals.{add-one}
+use native.Mathlib.Omega.{arith}
+use mathlib.Core.Path.{_≡_, refl, sym, ap, _∙_}
+use mathlib.Core.List.{List, [], _∷_}
+use mathlib.Core.Bool.{Bool, true, false, cond, not, _&&_}
+use lib.ListN.{length, getD, set, take, drop, drop-of-length-le, replicate}
+use lib.Seq.{drop-cons}
+use lib.Dec.{leb, ltb, eqb, eqb·suc-zero}
+use borrow.Author.Tests.{le-leb, lt-leb, le-ltb, lt-ltb, eq-eqb, ne-eqb, eqb-true, ltb-false, not-false}
+use Rattle.layouts.specs.Answer.{Answer, refused, nothing, gives, _when_, refusal, shown, Copied, copied}
+use Rattle.layouts.proofs.Answers.{none-fails, stopped, went-on, copied-refused, copied-bytes}
+use Rattle.subframes.specs.Subframe.{State, Page, Fed, WordStep, wordOf, subframeOf, small, viewChecks, feedChecks, takeWord, changed, put4, answerAt, used, offered, feed, view}
+use Rattle.subframes.specs.SubframePromises.{state, TakeWord, meaning-word, sizeOf, bufferOf, meaning-shown, ViewSubframeShown, ViewSubframe}
+use Rattle.subframes.specs.declared.subframe.Message.{Message}
+use Rattle.subframes.specs.declared.subframe.Message.the-variants.{Hkroot, Mack}
+use Rattle.subframes.specs.SubframeInner.{Inside}
+use Rattle.subframes.specs.declared.subframe.CollectSubframe.{CollectSubframe}
+use Rattle.subframes.specs.declared.subframe.SubframeShown.{SubframeShown}
+use Rattle.subframes.specs.declared.subframe.SubframeShown.the-variants.{Shown, Nothing as NothingShown, Refused as NotShown}
+use Rattle.subframes.specs.declared.subframe.WordAnswer.{WordAnswer}
+use Rattle.subframes.specs.declared.subframe.WordAnswer.the-variants.{Refused as WordRefused, Unused, Used}
+use Rattle.subframes.specs.declared.subframe.WordTaken.{WordTaken}
+
+-- Every count is small: the loop's three ways.
+small-at : (l : List ℕ) (i : ℕ) → i < length l → small (drop i l) ≡ (leb (getD l i 0) 15 && small (drop (i + 1) l))
+unfolding small
+small-at l i h = rw (add-one, drop-cons l i 0 h)
+
+pub small-stop : (l : List ℕ) (i : ℕ) → i < length l → 15 < getD l i 0 → small (drop i l) ≡ small l → false ≡ small l
+small-stop l i h b e = sym (rw (lt-leb _ _ b) at (small-at l i h)) ∙ e
+
+pub small-go : (l : List ℕ) (i : ℕ) → i < length l → getD l i 0 ≤ 15 → small (drop i l) ≡ small l → small (drop (i + 1) l) ≡ small l
+small-go l i h b e = sym (rw (le-leb _ _ b) at (small-at l i h)) ∙ e
+
+pub small-end : (l : List ℕ) (i : ℕ) → length l ≤ i → small (drop i l) ≡ small l → true ≡ small l
+unfolding small
+small-end l i h e = sym (ap small (drop-of-length-le l h)) ∙ e
+
+-- The refusals.
+module _ (s : State) (n : ℕ) where
+  pub other-hkroot : (length (s .hkroot) ≡ 540 → ⊥) → 1 ≡ refusal (viewChecks s n)
+  unfolding refusal
+  other-hkroot h = rw (ne-eqb (length (s .hkroot)) 540 h)
+
+  pub other-mack : length (s .hkroot) ≡ 540 → (length (s .mack) ≡ 2160 → ⊥) → 1 ≡ refusal (viewChecks s n)
+  unfolding refusal
+  other-mack h0 h = rw (eq-eqb (length (s .hkroot)) 540 h0, ne-eqb (length (s .mack)) 2160 h)
+
+  pub other-week : length (s .hkroot) ≡ 540 → length (s .mack) ≡ 2160 → 4095 < s .week → 12 ≡ refusal (viewChecks s n)
+  unfolding refusal
+  other-week h0 h1 h = rw (eq-eqb (length (s .hkroot)) 540 h0, eq-eqb (length (s .mack)) 2160 h1, lt-ltb 4095 (s .week) h)
+
+  pub other-subframe : length (s .hkroot) ≡ 540 → length (s .mack) ≡ 2160 → s .week ≤ 4095 → 20159 < s .subframe → 12 ≡ refusal (viewChecks s n)
+  unfolding refusal
+  other-subframe h0 h1 h2 h = rw (eq-eqb (length (s .hkroot)) 540 h0, eq-eqb (length (s .mack)) 2160 h1, le-ltb 4095 (s .week) h2, lt-ltb 20159 (s .subframe) h)
+
+  pub other-counts : length (s .hkroot) ≡ 540 → length (s .mack) ≡ 2160 → s .week ≤ 4095 → s .subframe ≤ 20159 → {b : Bool} → b ≡ small (s .counts) → not b ≡ true → 12 ≡ refusal (viewChecks s n)
+  unfolding refusal
+  other-counts h0 h1 h2 h3 e h = rw (eq-eqb (length (s .hkroot)) 540 h0, eq-eqb (length (s .mack)) 2160 h1, le-ltb 4095 (s .week) h2, le-ltb 20159 (s .subframe) h3, ← e, h)
+
+  pub satellite-0 : length (s .hkroot) ≡ 540 → length (s .mack) ≡ 2160 → s .week ≤ 4095 → s .subframe ≤ 20159 → {b : Bool} → b ≡ small (s .counts) → not b ≡ false → n < 1 → 2 ≡ refusal (viewChecks s n)
+  unfolding refusal
+  satellite-0 h0 h1 h2 h3 e4 h4 h = rw (eq-eqb (length (s .hkroot)) 540 h0, eq-eqb (length (s .mack)) 2160 h1, le-ltb 4095 (s .week) h2, le-ltb 20159 (s .subframe) h3, ← e4, h4, lt-ltb n 1 h)
+
+  pub satellite-high : length (s .hkroot) ≡ 540 → length (s .mack) ≡ 2160 → s .week ≤ 4095 → s .subframe ≤ 20159 → {b : Bool} → b ≡ small (s .counts) → not b ≡ false → 1 ≤ n → 36 < n → 2 ≡ refusal (viewChecks s n)
+  unfolding refusal
+  satellite-high h0 h1 h2 h3 e4 h4 h5 h = rw (eq-eqb (length (s .hkroot)) 540 h0, eq-eqb (length (s .mack)) 2160 h1, le-ltb 4095 (s .week) h2, le-ltb 20159 (s .subframe) h3, ← e4, h4, le-ltb n 1 h5, lt-ltb 36 n h)
+
+  pub seen : length (s .hkroot) ≡ 540 → length (s .mack) ≡ 2160 → s .week ≤ 4095 → s .subframe ≤ 20159 → {b : Bool} → b ≡ small (s .counts) → not b ≡ false → 1 ≤ n → n ≤ 36 → 0 ≡ refusal (viewChecks s n)
+  unfolding refusal
+  seen h0 h1 h2 h3 e4 h4 h5 h6 = rw (eq-eqb (length (s .hkroot)) 540 h0, eq-eqb (length (s .mack)) 2160 h1, le-ltb 4095 (s .week) h2, le-ltb 20159 (s .subframe) h3, ← e4, h4, le-ltb n 1 h5, le-ltb 36 n h6)
+
+module _ (s : State) (p : Page) where
+  pub other-page : (length (p .bytes) ≡ 5 → ⊥) → 1 ≡ refusal (feedChecks s p)
+  unfolding refusal
+  other-page ne = rw (ne-eqb (length (p .bytes)) 5 ne)
+
+  module _ (l : length (p .bytes) ≡ 5) {q : ℕ} (e : q ≡ refusal (viewChecks s (p .satellite))) where
+    pub not-seen : (q ≡ 0 → ⊥) → q ≡ refusal (feedChecks s p)
+    unfolding refusal
+    not-seen ne = rw (eq-eqb (length (p .bytes)) 5 l) (stopped (viewChecks s (p .satellite)) (3 when ltb 4095 (p .week) ∷ 4 when ltb 604799 (p .time) ∷ []) e ne)
+
+    module _ (z : q ≡ 0) where
+      behind : {r : ℕ} → r ≡ refusal (3 when ltb 4095 (p .week) ∷ 4 when ltb 604799 (p .time) ∷ []) → r ≡ refusal (feedChecks s p)
+      unfolding refusal
+      behind h = rw (eq-eqb (length (p .bytes)) 5 l) (went-on (viewChecks s (p .satellite)) (3 when ltb 4095 (p .week) ∷ 4 when ltb 604799 (p .time) ∷ []) tt e z h)
+
+      pub week-high : 4095 < p .week → 3 ≡ refusal (feedChecks s p)
+      unfolding refusal
+      week-high h = behind (rw (lt-ltb 4095 (p .week) h))
+
+      pub time-high : p .week ≤ 4095 → 604799 < p .time → 4 ≡ refusal (feedChecks s p)
+      unfolding refusal
+      time-high g h = behind (rw (le-ltb 4095 (p .week) g, lt-ltb 604799 (p .time) h))
+
+      pub admitted : p .week ≤ 4095 → p .time ≤ 604799 → 0 ≡ refusal (feedChecks s p)
+      unfolding refusal
+      admitted g h = behind (rw (le-ltb 4095 (p .week) g, le-ltb 604799 (p .time) h))
+
+-- what holds of a satellite that may be asked for
+pub seen-satellite : (s : State) (n : ℕ) {q : ℕ} → q ≡ refusal (viewChecks s n) → q ≡ 0 → (1 ≤ n) × (n ≤ 36) × (length (s .hkroot) ≡ 540) × (length (s .mack) ≡ 2160)
+seen-satellite s n e z =
+    let f = none-fails (viewChecks s n) tt (sym e ∙ z) in
+    (ltb-false n 1 (f .1 .1 .1 .1 .1 .0), ltb-false 36 n (f .1 .1 .1 .1 .1 .1 .0), eqb-true (length (s .hkroot)) 540 (not-false _ (f .0)), eqb-true (length (s .mack)) 2160 (not-false _ (f .1 .0)))
+
+-- what holds of a page that is not refused
+pub record Fine (s : State) (p : Page) : Type 0 where
+  pub h540 : length (s .hkroot) ≡ 540
+  pub m2160 : length (s .mack) ≡ 2160
+  pub p5 : length (p .bytes) ≡ 5
+  pub some : 1 ≤ p .satellite
+  pub few : p .satellite ≤ 36
+  pub in-week : p .time ≤ 604799
+
+pub fine : (s : State) (p : Page) {q : ℕ} → q ≡ refusal (feedChecks s p) → q ≡ 0 → Fine s p
+fine s p e z =
+    let f = none-fails (feedChecks s p) tt (sym e ∙ z) in
+    record {
+      p5 = eqb-true (length (p .bytes)) 5 (not-false _ (f .0));
+      h540 = eqb-true (length (s .hkroot)) 540 (not-false _ (f .1 .0));
+      m2160 = eqb-true (length (s .mack)) 2160 (not-false _ (f .1 .1 .0));
+      some = ltb-false (p .satellite) 1 (f .1 .1 .1 .1 .1 .1 .0);
+      few = ltb-false 36 (p .satellite) (f .1 .1 .1 .1 .1 .1 .1 .0);
+      in-week = ltb-false 604799 (p .time) (f .1 .1 .1 .1 .1 .1 .1 .1 .1 .0);
+    }
+
+-- One satellite's count.
+module _ (n w : ℕ) where
+  pub count-high : 15 < n → _≡_ {A = WordStep} (record { next = 0; answer = refused 12 }) (takeWord n w)
+  unfolding takeWord
+  count-high h = rw (lt-ltb 15 n h)
+
+  module _ (h : n ≤ 15) where
+    pub word-high : 14 < w → _≡_ {A = WordStep} (record { next = 0; answer = refused 7 }) (takeWord n w)
+    unfolding takeWord
+    word-high g = rw (le-ltb 15 n h, lt-ltb 14 w g)
+
+    module _ (g : w ≤ 14) where
+      pub word-other : (w ≡ n → ⊥) → _≡_ {A = WordStep} (record { next = n; answer = nothing }) (takeWord n w)
+      unfolding takeWord
+      word-other ne = rw (le-ltb 15 n h, le-ltb 14 w g, ne-eqb w n ne)
+
+      pub word-next : w ≡ n → _≡_ {A = WordStep} (record { next = n + 1; answer = gives [] }) (takeWord n w)
+      unfolding takeWord
+      word-next e = rw (le-ltb 15 n h, le-ltb 14 w g, eq-eqb w n e)
+
+-- what its answer tells
+module _ (n w : ℕ) (x : WordTaken) (e : TakeWord n w x) (h : w < 15) where
+  pub took-next : x .answer ≡ Used → (eqb w n ≡ true) × (x .next .words ≡ w + 1)
+  unfolding takeWord
+  took-next u = go (ltb 15 n) (ltb 14 w) (eqb w n) refl (ap (λ (y : WordStep). y .answer) e) (ap (λ (y : WordStep). y .next) e)
+    where
+      go : (a b c : Bool) → eqb w n ≡ c
+          → meaning-word (x .answer) ≡ cond {A = WordStep} a (record { next = 0; answer = refused 12 }) (cond b (record { next = 0; answer = refused 7 }) (cond c (record { next = n + 1; answer = gives [] }) (record { next = n; answer = nothing }))) .answer
+          → x .next .words ≡ cond {A = WordStep} a (record { next = 0; answer = refused 12 }) (cond b (record { next = 0; answer = refused 7 }) (cond c (record { next = n + 1; answer = gives [] }) (record { next = n; answer = nothing }))) .next
+          → (c ≡ true) × (x .next .words ≡ w + 1)
+      go false false true q f g = (refl, omega (arith, g, eqb-true w n q))
+      go false false false q f g = let f : gives [] ≡ nothing = rw u at f in let z : _≡_ {A = ℕ} 0 1 = cc in absurd (omega arith)
+      go false true c q f g = let f : gives [] ≡ refused 7 = rw u at f in let z : _≡_ {A = ℕ} 0 1 = cc in absurd (omega arith)
+      go true b c q f g = let f : gives [] ≡ refused 12 = rw u at f in let z : _≡_ {A = ℕ} 0 1 = cc in absurd (omega arith)
+
+  took-other : {a : WordAnswer} → x .answer ≡ a → (meaning-word a ≡ gives [] → ⊥) → eqb w n ≡ false
+  unfolding takeWord
+  took-other {a} u ne = go (eqb w n) refl
+    where
+      go : (c : Bool) → eqb w n ≡ c → c ≡ false
+      go false q = refl
+      go true q =
+          let same : w ≡ n = eqb-true w n q in
+          let next : meaning-word (x .answer) ≡ gives [] = ap (λ (y : WordStep). y .answer) e ∙ sym (ap (λ (y : WordStep). y .answer) (word-next n w (omega arith) (omega arith) same)) in
+          absurd (ne (rw u at next))
+
+  pub took-unused : x .answer ≡ Unused → eqb w n ≡ false
+  took-unused u = took-other u (λ z. let y : _≡_ {A = ℕ} 0 1 = cc in omega arith)
+
+  pub took-refused : {k : ℕ} → x .answer ≡ WordRefused k → eqb w n ≡ false
+  took-refused u = took-other u (λ z. let y : _≡_ {A = ℕ} 0 1 = cc in omega arith)
+
+-- A change of week or subframe.
+module _ (s : State) (week subframe : ℕ) where
+  pub other-week-taken : (s .week ≡ week → ⊥) → _≡_ {A = State} (record { week = week; subframe = subframe; counts = replicate 36 0; hkroot = s .hkroot; mack = s .mack }) (changed s week subframe)
+  unfolding changed
+  other-week-taken ne = rw (ne-eqb (s .week) week ne)
+
+  pub other-subframe-taken : s .week ≡ week → (s .subframe ≡ subframe → ⊥) → _≡_ {A = State} (record { week = week; subframe = subframe; counts = replicate 36 0; hkroot = s .hkroot; mack = s .mack }) (changed s week subframe)
+  unfolding changed
+  other-subframe-taken e ne = rw (eq-eqb (s .week) week e, ne-eqb (s .subframe) subframe ne)
+
+  pub unchanged : s .week ≡ week → s .subframe ≡ subframe → s ≡ changed s week subframe
+  unfolding changed
+  unchanged e f = rw (eq-eqb (s .week) week e, eq-eqb (s .subframe) subframe f)
+
+  pub changed-subframe : changed s week subframe .subframe ≡ subframe
+  unfolding changed
+  changed-subframe = go (eqb (s .week) week) (eqb (s .subframe) subframe) refl
+    where
+      go : (a b : Bool) → eqb (s .subframe) subframe ≡ b → cond (a && b) s (record { week = week; subframe = subframe; counts = replicate 36 0; hkroot = s .hkroot; mack = s .mack }) .subframe ≡ subframe
+      go true true e = eqb-true (s .subframe) subframe e
+      go true false e = refl
+      go false b e = refl
+
+-- The page of a satellite.
+pub answer-15 : (n week subframe : ℕ) → n ≡ 15 → gives (week ∷ 30 * subframe ∷ []) ≡ answerAt n week subframe
+unfolding answerAt
+answer-15 n week subframe e = rw (eq-eqb n 15 e)
+
+pub answer-less : (n week subframe : ℕ) → (n ≡ 15 → ⊥) → nothing ≡ answerAt n week subframe
+unfolding answerAt
+answer-less n week subframe ne = rw (ne-eqb n 15 ne)
+
+module _ (s : State) (bytes : List ℕ) (i w : ℕ) where
+  pub used-is : {h m : List ℕ} {a : Answer} {n : ℕ} → h ≡ set (s .hkroot) (15 * i + w) (getD bytes 0 0) → m ≡ put4 (s .mack) (60 * i + 4 * w) bytes → n ≡ w + 1 → a ≡ answerAt n (s .week) (s .subframe)
+      → _≡_ {A = Fed} (record { state = record { week = s .week; subframe = s .subframe; counts = set (s .counts) i n; hkroot = h; mack = m }; answer = a }) (used s bytes i w)
+  unfolding used
+  used-is eh em en ea = rw (eh, em, ea, en)
+
+  pub offered-not : eqb w (getD (s .counts) i 0) ≡ false → _≡_ {A = Fed} (record { state = s; answer = nothing }) (offered s bytes i w)
+  unfolding offered
+  offered-not e = rw e
+
+  pub offered-refused : (x : WordTaken) {k : ℕ} → TakeWord (getD (s .counts) i 0) w x → w < 15 → x .answer ≡ WordRefused k → _≡_ {A = Fed} (record { state = s; answer = nothing }) (offered s bytes i w)
+  offered-refused x e h u = offered-not (took-refused (getD (s .counts) i 0) w x e h u)
+
+  pub offered-used : {f : Fed} → eqb w (getD (s .counts) i 0) ≡ true → f ≡ used s bytes i w → f ≡ offered s bytes i w
+  unfolding offered
+  offered-used e g = let q : offered s bytes i w ≡ used s bytes i w = rw e in g ∙ sym q
+
+-- A call.
+module _ (s : State) (p : Page) {q : ℕ} (e : q ≡ refusal (feedChecks s p)) where
+  pub feed-refused : (q ≡ 0 → ⊥) → _≡_ {A = Fed} (record { state = s; answer = refused q }) (feed s p)
+  unfolding feed
+  feed-refused ne = rw (← e, ne-eqb q 0 ne)
+
+  pub feed-admitted : {f : Fed} {t : State} → q ≡ 0 → t ≡ changed s (p .week) (subframeOf (p .time)) → f ≡ offered t (p .bytes) (p .satellite - 1) (wordOf (p .time)) → f ≡ feed s p
+  unfolding feed
+  feed-admitted z et g =
+      let whole : feed s p ≡ offered (changed s (p .week) (subframeOf (p .time))) (p .bytes) (p .satellite - 1) (wordOf (p .time)) = rw (← e, z) in
+      g ∙ ap (λ (t : State). offered t (p .bytes) (p .satellite - 1) (wordOf (p .time))) et ∙ sym whole
+
+-- The view.
+module _ (s : State) (size n : ℕ) {q : ℕ} (e : q ≡ refusal (viewChecks s n)) where
+  pub view-refused : (q ≡ 0 → ⊥) → refused q ≡ view s size n
+  unfolding view
+  view-refused ne = rw (← e, ne-eqb q 0 ne)
+
+  module _ (z : q ≡ 0) where
+    pub view-less : (getD (s .counts) (n - 1) 0 ≡ 15 → ⊥) → nothing ≡ view s size n
+    unfolding view
+    view-less ne = rw (← e, z, ne-eqb (getD (s .counts) (n - 1) 0) 15 ne)
+
+    pub view-15 : {m : ℕ} → getD (s .counts) (n - 1) 0 ≡ 15 → m ≡ size → gives (m * (n - 1) ∷ m ∷ []) ≡ view s size n
+    unfolding view
+    view-15 h g = rw (← e, z, eq-eqb (getD (s .counts) (n - 1) 0) 15 h, g)
+
+-- a message lies within its buffer
+pub message-room : (m : Message) (h k : List ℕ) {b : ℕ} (n : ℕ) → b ≡ sizeOf m → length h ≡ 540 → length k ≡ 2160 → 1 ≤ n → n ≤ 36 → (b * (n - 1) ≤ 2160) × (b * (n - 1) + b ≤ length (bufferOf m h k))
+message-room Hkroot h k n e lh lk s f = (rw e (omega arith), rw e (omega arith))
+message-room Mack h k n e lh lk s f = (rw e (omega arith), rw e (omega arith))
+
+-- what is shown of some bytes
+module _ {p : SubframeShown} where
+  pub inside-shown : {first many len : ℕ} → p ≡ Shown first many → Inside p len → first + many ≤ len
+  inside-shown e h = rw e at h
+
+  module _ (m : List ℕ) where
+    pub part-bytes : {first many : ℕ} → p ≡ Shown first many → take many (drop first m) ≡ shown m (meaning-shown p)
+    unfolding shown
+    part-bytes e = rw e
+
+    pub part-nothing : p ≡ NothingShown → [] ≡ shown m (meaning-shown p)
+    unfolding shown
+    part-nothing e = rw e
+
+    pub part-refused : {n : ℕ} → p ≡ NotShown n → [] ≡ shown m (meaning-shown p)
+    unfolding shown
+    part-refused e = rw e
+
+-- what the question tells of lies in the buffer
+view-lies : (h m : List ℕ) (s : State) (k : Message) (n : ℕ) → s .hkroot ≡ h → s .mack ≡ m → {first many : ℕ} → gives (first ∷ many ∷ []) ≡ view s (sizeOf k) n → first + many ≤ length (bufferOf k h m)
+unfolding view
+view-lies h m s k n eh em e = go (refusal (viewChecks s n)) refl (eqb (getD (s .counts) (n - 1) 0) 15) e
+  where
+    go : (q : ℕ) → q ≡ refusal (viewChecks s n) → (b : Bool) → {first many : ℕ} → gives (first ∷ many ∷ []) ≡ cond (eqb q 0) (cond b (gives (sizeOf k * (n - 1) ∷ sizeOf k ∷ [])) nothing) (refused q)
+        → first + many ≤ length (bufferOf k h m)
+    go zero e true {first} {many} f =
+        let i = seen-satellite s n e refl in
+        let room : sizeOf k * (n - 1) + sizeOf k ≤ length (bufferOf k h m) = message-room k h m n refl (sym (ap length eh) ∙ i .2) (sym (ap length em) ∙ i .3) (i .0) (i .1) .1 in
+        let a : first ≡ sizeOf k * (n - 1) = cc in
+        let b : many ≡ sizeOf k = cc in
+        rw (a, b) room
+    go zero e false f = let z : _≡_ {A = ℕ} 0 1 = cc in absurd (omega arith)
+    go (suc q) e b {first} {many} f = let f : gives (first ∷ many ∷ []) ≡ refused (suc q) = rw (eqb·suc-zero q) at f in let z : _≡_ {A = ℕ} 0 1 = cc in absurd (omega arith)
+
+view-inside : (c : CollectSubframe) (h m : List ℕ) (k : Message) (n : ℕ) (x : SubframeShown) → ViewSubframeShown c h m k n x → Inside x (length (bufferOf k h m))
+view-inside c h m k n (Shown first many) e = view-lies h m (state c h m) k n refl refl e
+view-inside c h m k n NothingShown e = tt
+view-inside c h m k n (NotShown q) e = tt
+
+-- the two kinds of message
+module _ (c : CollectSubframe) (h m : List ℕ) (k : Message) (n : ℕ) (x : SubframeShown) (e : ViewSubframeShown c h m k n x) where
+  pub hkroot-inside : k ≡ Hkroot → Inside x (length h)
+  hkroot-inside g = let i : Inside x (length (bufferOf k h m)) = view-inside c h m k n x e in rw g at i
+
+  pub mack-inside : k ≡ Mack → Inside x (length m)
+  mack-inside g = let i : Inside x (length (bufferOf k h m)) = view-inside c h m k n x e in rw g at i
+
+  pub hkroot-part : {r : List ℕ} → k ≡ Hkroot → r ≡ shown h (meaning-shown x) → ViewSubframe c h m k n r
+  hkroot-part g p = p ∙ ap (λ (l : List ℕ). shown l (meaning-shown x)) (sym (ap (λ (j : Message). bufferOf j h m) g)) ∙ ap (shown (bufferOf k h m)) e
+
+  pub mack-part : {r : List ℕ} → k ≡ Mack → r ≡ shown m (meaning-shown x) → ViewSubframe c h m k n r
+  mack-part g p = p ∙ ap (λ (l : List ℕ). shown l (meaning-shown x)) (sym (ap (λ (j : Message). bufferOf j h m) g)) ∙ ap (shown (bufferOf k h m)) e
+
+-- an HKROOT message by value
+module _ (c : CollectSubframe) (h m : List ℕ) (n : ℕ) (x : SubframeShown) (e : ViewSubframeShown c h m Hkroot n x) where
+  pub message-refused : {q : ℕ} → x ≡ NotShown q → _≡_ {A = Copied} (record { answer = refused q; bytes = replicate 15 0 }) (copied 15 h (view (state c h m) 15 n))
+  message-refused g = copied-refused 15 h (rw g at e)
+
+  pub message-nothing : x ≡ NothingShown → _≡_ {A = Copied} (record { answer = nothing; bytes = replicate 15 0 }) (copied 15 h (view (state c h m) 15 n))
+  unfolding copied
+  message-nothing g = ap (copied 15 h) (rw g at e)
+
+  message-15 : {first many : ℕ} → x ≡ Shown first many → many ≡ 15
+  unfolding view
+  message-15 g = go (eqb (refusal (viewChecks (state c h m) n)) 0) (eqb (getD (c .counts) (n - 1) 0) 15) (rw g at e)
+    where
+      go : (a b : Bool) {first many : ℕ} → gives (first ∷ many ∷ []) ≡ cond a (cond b (gives (15 * (n - 1) ∷ 15 ∷ [])) nothing) (refused (refusal (viewChecks (state c h m) n))) → many ≡ 15
+      go true true f = cc
+      go true false f = let z : _≡_ {A = ℕ} 0 1 = cc in absurd (omega arith)
+      go false b f = let z : _≡_ {A = ℕ} 0 1 = cc in absurd (omega arith)
+
+  pub message-room-15 : {first many : ℕ} → x ≡ Shown first many → first + 15 ≤ length h
+  message-room-15 {first} g = rw (← message-15 g) (inside-shown g (hkroot-inside c h m Hkroot n x e refl))
+
+  pub message-bytes : {first many : ℕ} {l : List ℕ} → x ≡ Shown first many → l ≡ take 15 (drop first h) → _≡_ {A = Copied} (record { answer = gives (first ∷ many ∷ []); bytes = l }) (copied 15 h (view (state c h m) 15 n))
+  message-bytes {first} g p = copied-bytes 15 h (rw g at e) (p ∙ ap (λ (k : ℕ). take k (drop first h)) (sym (message-15 g)))

@@ -1,0 +1,122 @@
+-- The subframe collector: document 01, "A subframe from its pages".
+-- Assumes nothing.
+use Prim.Native.Nat.{ℕ, _+_, _-_, _*_, _/_, _%_}
+use mathlib.Core.List.{List, [], _∷_, _++_}
+use mathlib.Core.Bool.{Bool, true, cond, not, _&&_}
+use lib.ListN.{length, getD, set, replicate}
+use lib.Dec.{leb, ltb, eqb}
+use Rattle.layouts.specs.Answer.{Answer, refused, nothing, gives, Check, _when_, refusal}
+
+-- "The record holds week, subframe and 36 word counts"; beside it the 540 HKROOT bytes (36 by 15) and the 2,160 MACK bytes (36 by 60) that are lent
+pub record State : Type 0 where
+  pub week : ℕ
+  pub subframe : ℕ
+  pub counts : List ℕ
+  pub hkroot : List ℕ
+  pub mack : List ℕ
+
+-- "A new one is all zeros."
+abbrev pub new : List ℕ → List ℕ → State
+new hkroot mack = record { week = 0; subframe = 0; counts = replicate 36 0; hkroot = hkroot; mack = mack }
+
+-- A call: "A page has 5 bytes: 1 HKROOT byte, then 4 MACK bytes."
+pub record Page : Type 0 where
+  pub bytes : List ℕ
+  pub satellite : ℕ
+  pub week : ℕ
+  pub time : ℕ
+
+-- "Word = (tow / 2) mod 15; subframe = tow / 30, rounded down."
+abbrev pub wordOf : ℕ → ℕ
+wordOf time = time / 2 % 15
+
+abbrev pub subframeOf : ℕ → ℕ
+subframeOf time = time / 30
+
+-- "36 word counts, each 0..15"
+unfoldable pub small : List ℕ → Bool
+small [] = true
+small (n ∷ ns) = leb n 15 && small ns
+
+-- "week at most 4,095, subframe at most 20,159": what is refused of the lent bytes, the record and a satellite, in the order 1, 12, 2
+abbrev pub viewChecks : State → ℕ → List Check
+viewChecks s satellite =
+    1 when not (eqb (length (s .hkroot)) 540) ∷
+    1 when not (eqb (length (s .mack)) 2160) ∷
+    12 when ltb 4095 (s .week) ∷
+    12 when ltb 20159 (s .subframe) ∷
+    12 when not (small (s .counts)) ∷
+    2 when ltb satellite 1 ∷
+    2 when ltb 36 satellite ∷
+    []
+
+-- and of a page: 1 before them, 3 and 4 after them
+abbrev pub feedChecks : State → Page → List Check
+feedChecks s p = 1 when not (eqb (length (p .bytes)) 5) ∷ viewChecks s (p .satellite) ++ (3 when ltb 4095 (p .week) ∷ 4 when ltb 604799 (p .time) ∷ [])
+
+-- "One satellite's count takes a word number and hands back its next state.": a count above 15 is 12, a word above 14 is 7, with next count 0 and not used
+pub record WordStep : Type 0 where
+  pub next : ℕ
+  pub answer : Answer
+
+unfoldable pub takeWord : ℕ → ℕ → WordStep
+takeWord count word =
+    cond (ltb 15 count) (record { next = 0; answer = refused 12 })
+    (cond (ltb 14 word) (record { next = 0; answer = refused 7 })
+    (cond (eqb word count) (record { next = count + 1; answer = gives [] }) (record { next = count; answer = nothing })))
+
+-- "If its week or subframe differs from the record's, both are taken over and all 36 counts become 0, whether or not the page is then used."
+unfoldable pub changed : State → ℕ → ℕ → State
+changed s week subframe =
+    cond (eqb (s .week) week && eqb (s .subframe) subframe) s
+    (record { week = week; subframe = subframe; counts = replicate 36 0; hkroot = s .hkroot; mack = s .mack })
+
+-- the state after a call, and the answer
+pub record Fed : Type 0 where
+  pub state : State
+  pub answer : Answer
+
+-- bytes 1 to 4 of a page, from that place
+abbrev pub put4 : List ℕ → ℕ → List ℕ → List ℕ
+put4 mack at bytes = set (set (set (set mack at (getD bytes 1 0)) (at + 1) (getD bytes 2 0)) (at + 2) (getD bytes 3 0)) (at + 3) (getD bytes 4 0)
+
+-- "at 15 the pair is complete, with time (week, 30 x subframe)"
+unfoldable pub answerAt : ℕ → ℕ → ℕ → Answer
+answerAt count week subframe = cond (eqb count 15) (gives (week ∷ 30 * subframe ∷ [])) nothing
+
+-- "its bytes go to that place and the count rises": the satellite at i, from 0
+unfoldable pub used : State → List ℕ → ℕ → ℕ → Fed
+used s bytes i word =
+    record {
+      state =
+          record {
+            week = s .week;
+            subframe = s .subframe;
+            counts = set (s .counts) i (word + 1);
+            hkroot = set (s .hkroot) (15 * i + word) (getD bytes 0 0);
+            mack = put4 (s .mack) (60 * i + 4 * word) bytes;
+          };
+      answer = answerAt (word + 1) (s .week) (s .subframe);
+    }
+
+-- "If the word differs from the satellite's count: nothing."
+unfoldable pub offered : State → List ℕ → ℕ → ℕ → Fed
+offered s bytes i word = cond (eqb word (getD (s .counts) i 0)) (used s bytes i word) (record { state = s; answer = nothing })
+
+-- "If the word differs from the satellite's count: nothing. Otherwise its bytes go to that place and the count rises": whether an admitted page is used
+unfoldable pub isUsed : State → Page → Bool
+isUsed s p = eqb (wordOf (p .time)) (getD (changed s (p .week) (subframeOf (p .time)) .counts) (p .satellite - 1) 0)
+
+-- "An admitted page is one not refused."
+unfoldable pub feed : State → Page → Fed
+feed s p =
+    cond (eqb (refusal (feedChecks s p)) 0)
+    (offered (changed s (p .week) (subframeOf (p .time))) (p .bytes) (p .satellite - 1) (wordOf (p .time)))
+    (record { state = s; answer = refused (refusal (feedChecks s p)) })
+
+-- "A viewer, given the record, told HKROOT or MACK and a satellite whose count is 15, returns a part": where it lies in a buffer of messages of that size. "At a lower count the part is empty"
+unfoldable pub view : State → ℕ → ℕ → Answer
+view s size satellite =
+    cond (eqb (refusal (viewChecks s satellite)) 0)
+    (cond (eqb (getD (s .counts) (satellite - 1) 0) 15) (gives (size * (satellite - 1) ∷ size ∷ [])) nothing)
+    (refused (refusal (viewChecks s satellite)))

@@ -1,0 +1,421 @@
+// A subframe from its pages.
+ghost use mathlib.Core.Path.{_≡_};
+ghost use mathlib.Core.List.{List};
+ghost use mathlib.Core.Bool.{Bool, true, false};
+ghost use Prim.Native.Nat.{ℕ, _+_, _*_, _≤_, _<_};
+ghost use lib.ListN.{length, getD, set, take, drop};
+ghost use Rattle.layouts.specs.Answer.{shown as shownOf, refusal as refusalOf};
+ghost use Rattle.subframes.specs.Subframe.{Page, Fed, small, viewChecks, feedChecks, changed, put4, answerAt, used, offered};
+ghost use Rattle.subframes.specs.SubframeInner.{Inside};
+ghost use Rattle.subframes.specs.SubframePromises.{state, outcome, meaning-subframe, meaning-shown, NewSubframe, TakeWord, FeedSubframe, sizeOf, ViewSubframeShown, ViewSubframe, HkrootMessageRead};
+
+// How many words of a satellite's subframe have come, and to which subframe they belong; the bytes are lent by the caller.
+pub struct CollectSubframe {
+    pub week: u16,
+    pub subframe: u16,
+    pub counts: [u8; 36],
+}
+
+pub enum SubframeAnswer {
+    Refused(u8),
+    Nothing,
+    Complete { week: u16, time: u32 },
+}
+
+pub struct SubframeFed {
+    pub collector: CollectSubframe,
+    pub answer: SubframeAnswer,
+}
+
+// One satellite's count: the number of the word that comes next, 15 when all have come.
+pub struct WordCount {
+    pub words: u8,
+}
+
+pub enum WordAnswer {
+    Refused(u8),
+    Unused,
+    Used,
+}
+
+pub struct WordTaken {
+    pub next: WordCount,
+    pub answer: WordAnswer,
+}
+
+// The two kinds of message that a subframe brings of each satellite.
+pub enum Message {
+    Hkroot,
+    Mack,
+}
+
+// Where a message lies in its buffer, if it is shown.
+pub enum SubframeShown {
+    Shown { first: usize, many: usize },
+    Nothing,
+    Refused(u8),
+}
+
+// Where an HKROOT message lies, and its bytes.
+pub struct HkrootMessage {
+    pub answer: SubframeShown,
+    pub bytes: [u8; 15],
+}
+
+impl WordCount {
+    // The count goes on by one where the word is the next one. Refuses 12 for a count above 15, then 7 for a word above 14.
+    pub fn take(self, word: u8) -> WordTaken
+        ensures { λ r. ⌜ TakeWord (self .words) word r ⌝ }
+    {
+        let count = self.words;
+        if 15 < count {
+            return WordTaken {
+                next: WordCount { words: 0 },
+                answer: WordAnswer::Refused(12),
+            };
+        }
+        if 14 < word {
+            return WordTaken {
+                next: WordCount { words: 0 },
+                answer: WordAnswer::Refused(7),
+            };
+        }
+        if word != count {
+            return WordTaken {
+                next: WordCount { words: count },
+                answer: WordAnswer::Unused,
+            };
+        }
+        WordTaken {
+            next: WordCount { words: count + 1 },
+            answer: WordAnswer::Used,
+        }
+    }
+}
+
+pub fn new() -> CollectSubframe
+    ensures { λ r. ⌜ NewSubframe r ⌝ }
+{
+    CollectSubframe {
+        week: 0,
+        subframe: 0,
+        counts: [0; 36],
+    }
+}
+
+// Whether every count is at most 15.
+fn all_small(counts: [u8; 36]) -> bool
+    ensures { λ r. ⌜ r ≡ small counts ⌝ }
+{
+    let mut i = 0;
+    while i < 36 {
+        if 15 < counts[i] {
+            return false;
+        }
+        i += 1;
+    }
+    true
+}
+
+// The refusal number of the lent bytes, the record and the satellite; 0 for none.
+pub(crate) fn view_refuses(
+    collector: CollectSubframe,
+    hkroot: &[u8],
+    mack: &[u8],
+    satellite: u8,
+) -> u8
+    ensures { λ r. ⌜ r ≡ refusalOf (viewChecks (state collector (now (hkroot .entry)) (now (mack .entry))) satellite) ⌝ }
+{
+    if hkroot.len() != 540 {
+        return 1;
+    }
+    if mack.len() != 2160 {
+        return 1;
+    }
+    if 4095 < collector.week {
+        return 12;
+    }
+    if 20159 < collector.subframe {
+        return 12;
+    }
+    let counts = collector.counts;
+    if !all_small(counts) {
+        return 12;
+    }
+    if satellite < 1 {
+        return 2;
+    }
+    if 36 < satellite {
+        return 2;
+    }
+    0
+}
+
+// The refusal number of a page; 0 for none.
+fn refuses(
+    collector: CollectSubframe,
+    hkroot: &[u8],
+    mack: &[u8],
+    page: &[u8],
+    satellite: u8,
+    week: u16,
+    time: u32,
+) -> u8
+    ensures { λ r. ⌜ r ≡ refusalOf (feedChecks (state collector (now (hkroot .entry)) (now (mack .entry))) (record { bytes = now (page .entry); satellite = satellite; week = week; time = time })) ⌝ }
+{
+    if page.len() != 5 {
+        return 1;
+    }
+    let refusal = view_refuses(collector, hkroot, mack, satellite);
+    if refusal != 0 {
+        return refusal;
+    }
+    if 4095 < week {
+        return 3;
+    }
+    if 604799 < time {
+        return 4;
+    }
+    0
+}
+
+// The collector at a page of that week and subframe: all counts 0 where either differs.
+pub(crate) fn change(collector: CollectSubframe, week: u16, subframe: u16) -> CollectSubframe
+    ensures { λ r. ⌜ ((h m : List ℕ) → state r h m ≡ changed (state collector h m) week subframe) ⌝ }
+{
+    if collector.week != week {
+        return CollectSubframe {
+            week,
+            subframe,
+            counts: [0; 36],
+        };
+    }
+    if collector.subframe != subframe {
+        return CollectSubframe {
+            week,
+            subframe,
+            counts: [0; 36],
+        };
+    }
+    collector
+}
+
+// A page's first byte goes to one place, the other four to the other. All are read before any is written, so that the compiler can move the four as one number.
+pub(crate) fn place(hkroot: &mut [u8], mack: &mut [u8], page: &[u8], h: usize, m: usize)
+    requires { ⌜ (h < length (now hkroot)) × (m + 3 < length (now mack)) × (length (now page) ≡ 5) ⌝ }
+    ensures { λ r. ⌜ (now (hkroot .exit) ≡ set (now (hkroot .entry)) h (getD (now (page .entry)) 0 0)) × (now (mack .exit) ≡ put4 (now (mack .entry)) m (now (page .entry))) ⌝ }
+{
+    let a = page[1];
+    let b = page[2];
+    let c = page[3];
+    let d = page[4];
+    hkroot[h] = page[0];
+    mack[m] = a;
+    mack[m + 1] = b;
+    mack[m + 2] = c;
+    mack[m + 3] = d;
+}
+
+// The answer where a satellite's count has become `count`.
+pub(crate) fn answer_at(count: u8, week: u16, subframe: u16) -> SubframeAnswer
+    requires { ⌜ subframe ≤ 20159 ⌝ }
+    ensures { λ r. ⌜ meaning-subframe r ≡ answerAt count week subframe ⌝ }
+{
+    if count != 15 {
+        return SubframeAnswer::Nothing;
+    }
+    let n = subframe as u32;
+    SubframeAnswer::Complete { week, time: 30 * n }
+}
+
+// The page has the satellite's next word: its bytes are kept, and the count rises to `next`.
+fn use_page(
+    collector: CollectSubframe,
+    hkroot: &mut [u8],
+    mack: &mut [u8],
+    page: &[u8],
+    i: usize,
+    word: u8,
+    next: u8,
+) -> SubframeFed
+    requires { ⌜ (length (now hkroot) ≡ 540) × (length (now mack) ≡ 2160) × (length (now page) ≡ 5) ⌝ }
+    requires { ⌜ (i < 36) × (word < 15) × (next ≡ word + 1) × (collector .subframe ≤ 20159) ⌝ }
+    ensures { λ r. ⌜ outcome r (now (hkroot .exit)) (now (mack .exit)) ≡ used (state collector (now (hkroot .entry)) (now (mack .entry))) (now (page .entry)) i word ⌝ }
+{
+    let w = word as usize;
+    place(hkroot, mack, page, 15 * i + w, 60 * i + 4 * w);
+    let answer = answer_at(next, collector.week, collector.subframe);
+    let mut after = collector;
+    after.counts[i] = next;
+    SubframeFed {
+        collector: after,
+        answer,
+    }
+}
+
+// The page of the satellite at `i`, at a collector of its week and subframe.
+fn offer(
+    collector: CollectSubframe,
+    hkroot: &mut [u8],
+    mack: &mut [u8],
+    page: &[u8],
+    i: usize,
+    word: u8,
+) -> SubframeFed
+    requires { ⌜ (length (now hkroot) ≡ 540) × (length (now mack) ≡ 2160) × (length (now page) ≡ 5) ⌝ }
+    requires { ⌜ (i < 36) × (word < 15) × (collector .subframe ≤ 20159) ⌝ }
+    ensures { λ r. ⌜ outcome r (now (hkroot .exit)) (now (mack .exit)) ≡ offered (state collector (now (hkroot .entry)) (now (mack .entry))) (now (page .entry)) i word ⌝ }
+{
+    let taken = WordCount {
+        words: collector.counts[i],
+    }.take(word);
+    let answer = taken.answer;
+    match answer {
+        WordAnswer::Refused(_) => SubframeFed {
+            collector,
+            answer: SubframeAnswer::Nothing,
+        },
+        WordAnswer::Unused => SubframeFed {
+            collector,
+            answer: SubframeAnswer::Nothing,
+        },
+        WordAnswer::Used => use_page(collector, hkroot, mack, page, i, word, taken.next.words),
+    }
+}
+
+// Takes a page. Refuses 1 for lent bytes other than 540 and 2,160 or a page other than 5, 12 for the record, 2, 3, 4 for satellite, week and time.
+pub fn feed(
+    collector: CollectSubframe,
+    hkroot: &mut [u8],
+    mack: &mut [u8],
+    page: &[u8],
+    satellite: u8,
+    week: u16,
+    time: u32,
+) -> SubframeFed
+    ensures { λ r. ⌜ FeedSubframe collector (now (hkroot .entry)) (now (mack .entry)) (record { bytes = now (page .entry); satellite = satellite; week = week; time = time }) r (now (hkroot .exit)) (now (mack .exit)) ⌝ }
+{
+    let refusal = refuses(collector, hkroot, mack, page, satellite, week, time);
+    if refusal != 0 {
+        return SubframeFed {
+            collector,
+            answer: SubframeAnswer::Refused(refusal),
+        };
+    }
+    let next = change(collector, week, (time / 30) as u16);
+    offer(
+        next,
+        hkroot,
+        mack,
+        page,
+        (satellite - 1) as usize,
+        (time / 2 % 15) as u8,
+    )
+}
+
+// How many bytes a message has.
+fn message_bytes(message: Message) -> usize
+    ensures { λ r. ⌜ r ≡ sizeOf message ⌝ }
+{
+    match message {
+        Message::Hkroot => 15,
+        Message::Mack => 60,
+    }
+}
+
+// Where the satellite's message lies, or nothing while its words have not all come. Refuses 1 for lent bytes other than 540 and 2,160, 12 for the record, 2 for the satellite.
+pub fn view_shown(
+    collector: CollectSubframe,
+    hkroot: &[u8],
+    mack: &[u8],
+    message: Message,
+    satellite: u8,
+) -> SubframeShown
+    ensures { λ r. ⌜ ViewSubframeShown collector (now (hkroot .entry)) (now (mack .entry)) message satellite r ⌝ }
+{
+    let refusal = view_refuses(collector, hkroot, mack, satellite);
+    if refusal != 0 {
+        return SubframeShown::Refused(refusal);
+    }
+    let i = (satellite - 1) as usize;
+    if collector.counts[i] != 15 {
+        return SubframeShown::Nothing;
+    }
+    let many = message_bytes(message);
+    SubframeShown::Shown {
+        first: many * i,
+        many,
+    }
+}
+
+// What is shown of the bytes.
+fn part(bytes: &[u8], shown: SubframeShown) -> &[u8]
+    requires { ⌜ Inside shown (length (now bytes)) ⌝ }
+    ensures { λ r. ⌜ now r ≡ shownOf (now (bytes .entry)) (meaning-shown shown) ⌝ }
+{
+    match shown {
+        SubframeShown::Refused(_) => &bytes[..0],
+        SubframeShown::Nothing => &bytes[..0],
+        SubframeShown::Shown { first, many } => {
+            let end = first + many;
+            &bytes[first..end]
+        }
+    }
+}
+
+// The satellite's message, none where `view_shown` shows nothing or refuses.
+pub fn view<'a>(
+    collector: CollectSubframe,
+    hkroot: &'a [u8],
+    mack: &'a [u8],
+    message: Message,
+    satellite: u8,
+) -> &'a [u8]
+    ensures { λ r. ⌜ ViewSubframe collector (now (hkroot .entry)) (now (mack .entry)) message satellite (now r) ⌝ }
+{
+    let shown = view_shown(collector, hkroot, mack, message, satellite);
+    match message {
+        Message::Hkroot => part(hkroot, shown),
+        Message::Mack => part(mack, shown),
+    }
+}
+
+// The 15 bytes from byte `first` on.
+fn message_at(bytes: &[u8], first: usize) -> [u8; 15]
+    requires { ⌜ first + 15 ≤ length (now bytes) ⌝ }
+    ensures { λ r. ⌜ r ≡ take 15 (drop first (now (bytes .entry))) ⌝ }
+{
+    let mut message = [0u8; 15];
+    let mut i = 0;
+    while i < 15 {
+        message[i] = bytes[first + i];
+        i += 1;
+    }
+    message
+}
+
+// The satellite's HKROOT message, as its 15 bytes; zeros where `view_shown` shows nothing or refuses.
+pub fn hkroot_message(
+    collector: CollectSubframe,
+    hkroot: &[u8],
+    mack: &[u8],
+    satellite: u8,
+) -> HkrootMessage
+    ensures { λ r. ⌜ HkrootMessageRead collector (now (hkroot .entry)) (now (mack .entry)) satellite r ⌝ }
+{
+    let answer = view_shown(collector, hkroot, mack, Message::Hkroot, satellite);
+    match answer {
+        SubframeShown::Refused(n) => HkrootMessage {
+            answer: SubframeShown::Refused(n),
+            bytes: [0; 15],
+        },
+        SubframeShown::Nothing => HkrootMessage {
+            answer: SubframeShown::Nothing,
+            bytes: [0; 15],
+        },
+        SubframeShown::Shown { first, many } => HkrootMessage {
+            answer: SubframeShown::Shown { first, many },
+            bytes: message_at(hkroot, first),
+        },
+    }
+}

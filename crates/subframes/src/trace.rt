@@ -1,0 +1,254 @@
+// A trace of pages in memory, fed to the subframe collector; docs/FORMATS.md has its layout. The record is checked once, then its counts are lent.
+use crate::subframe;
+use crate::subframe::CollectSubframe;
+use crate::subframe::SubframeAnswer;
+ghost use mathlib.Core.Path.{_≡_};
+ghost use mathlib.Core.List.{List};
+ghost use Prim.Native.Nat.{ℕ, _+_, _*_, _≤_, _<_};
+ghost use lib.ListN.{length, take, drop};
+ghost use Rattle.layouts.specs.Answer.{refusal as refusalOf};
+ghost use Rattle.subframes.specs.Subframe.{feedChecks, viewChecks, changed};
+ghost use Rattle.subframes.specs.SubframePromises.{state, meaning-subframe};
+ghost use Rattle.subframes.specs.Trace.{entryAt, entries as entriesOf, feedEach, traceChecks};
+ghost use Rattle.subframes.specs.TracePromises.{outcome-all, FeedAll};
+ghost use Rattle.subframes.specs.TraceInner.{pageOf, stateOf, entryChecks, completesOf, Offered, PageFed, endsWith, fedOf};
+
+pub struct TraceFed {
+    pub collector: CollectSubframe,
+    pub answer: SubframeAnswer,
+    pub consumed: usize,
+}
+
+// Whose page an entry has, and when it came.
+pub(crate) struct Entry {
+    pub satellite: u8,
+    pub week: u16,
+    pub time: u32,
+}
+
+// What became of an admitted page: not used, used, or used as the last of its subframe.
+pub(crate) enum PageTaken {
+    Unused,
+    Used,
+    Completes,
+}
+
+// Numbers of two and of four bytes, high byte first.
+fn number_of_2(a: u8, b: u8) -> u16
+    ensures { λ r. ⌜ r ≡ a * 256 + b ⌝ }
+{
+    a as u16 * 256 + b as u16
+}
+
+fn number_of_4(a: u8, b: u8, c: u8, d: u8) -> u32
+    ensures { λ r. ⌜ r ≡ ((a * 256 + b) * 256 + c) * 256 + d ⌝ }
+{
+    ((a as u32 * 256 + b as u32) * 256 + c as u32) * 256 + d as u32
+}
+
+// Entry `k` of a trace, without its page.
+pub(crate) fn entry_at(trace: &[u8], k: usize) -> Entry
+    requires { ⌜ 12 * k + 12 ≤ length (now trace) ⌝ }
+    ensures { λ r. ⌜ pageOf r (take 5 (drop (12 * k + 7) (now (trace .entry)))) ≡ entryAt (now (trace .entry)) k ⌝ }
+{
+    let at = 12 * k;
+    Entry {
+        satellite: trace[at],
+        week: number_of_2(trace[at + 1], trace[at + 2]),
+        time: number_of_4(trace[at + 3], trace[at + 4], trace[at + 5], trace[at + 6]),
+    }
+}
+
+// The refusal number of an entry; 0 for none.
+pub(crate) fn entry_refuses(entry: Entry) -> u8
+    ensures { λ r. ⌜ r ≡ refusalOf (entryChecks (entry .satellite) (entry .week) (entry .time)) ⌝ }
+{
+    if entry.satellite < 1 {
+        return 2;
+    }
+    if 36 < entry.satellite {
+        return 2;
+    }
+    if 4095 < entry.week {
+        return 3;
+    }
+    if 604799 < entry.time {
+        return 4;
+    }
+    0
+}
+
+// The counts at a page of week `to_week` and subframe `to_subframe`: all 0 where either is another one.
+fn restart(counts: &mut [u8; 36], week: u16, subframe: u16, to_week: u16, to_subframe: u16)
+    ensures { λ r. ⌜ ((h m : List ℕ) → stateOf «to_week» «to_subframe» (now (counts .exit)) h m ≡ changed (stateOf week subframe (now (counts .entry)) h m) «to_week» «to_subframe») ⌝ }
+{
+    if week != to_week {
+        *counts = [0; 36];
+        return;
+    }
+    if subframe != to_subframe {
+        *counts = [0; 36];
+        return;
+    }
+}
+
+// The page of the satellite at `i`: used where it has the next word.
+fn offer_at(
+    counts: &mut [u8; 36],
+    hkroot: &mut [u8],
+    mack: &mut [u8],
+    page: &[u8],
+    i: usize,
+    word: u8,
+) -> PageTaken
+    requires { ⌜ (length (now hkroot) ≡ 540) × (length (now mack) ≡ 2160) × (length (now page) ≡ 5) × (i < 36) × (word < 15) ⌝ }
+    ensures { λ r. ⌜ Offered (now (counts .entry)) (now (hkroot .entry)) (now (mack .entry)) (now (page .entry)) i word r (now (counts .exit)) (now (hkroot .exit)) (now (mack .exit)) ⌝ }
+{
+    if counts[i] != word {
+        return PageTaken::Unused;
+    }
+    let w = word as usize;
+    let at = 15 * i + w;
+    subframe::place(hkroot, mack, page, at, 4 * at);
+    counts[i] = word + 1;
+    if word != 14 {
+        return PageTaken::Used;
+    }
+    PageTaken::Completes
+}
+
+// Takes an admitted page, where the lent counts are of week `week` and subframe `subframe`. They are then of the page's own.
+pub(crate) fn take_page(
+    counts: &mut [u8; 36],
+    hkroot: &mut [u8],
+    mack: &mut [u8],
+    week: u16,
+    subframe: u16,
+    page: &[u8],
+    entry: Entry,
+) -> PageTaken
+    requires { ⌜ refusalOf (feedChecks (stateOf week subframe (now counts) (now hkroot) (now mack)) (pageOf entry (now page))) ≡ 0 ⌝ }
+    ensures { λ r. ⌜ PageFed (stateOf week subframe (now (counts .entry)) (now (hkroot .entry)) (now (mack .entry))) (pageOf entry (now (page .entry))) r (now (counts .exit)) (now (hkroot .exit)) (now (mack .exit)) ⌝ }
+{
+    // the word is (time / 2) mod 15, without a second division
+    let time = entry.time;
+    let number = time / 30;
+    restart(counts, week, subframe, entry.week, number as u16);
+    offer_at(
+        counts,
+        hkroot,
+        mack,
+        page,
+        (entry.satellite - 1) as usize,
+        (time / 2 - 15 * number) as u8,
+    )
+}
+
+// Whether the page was its subframe's last.
+fn completes(taken: PageTaken) -> bool
+    ensures { λ r. ⌜ r ≡ completesOf taken ⌝ }
+{
+    match taken {
+        PageTaken::Unused => false,
+        PageTaken::Used => false,
+        PageTaken::Completes => true,
+    }
+}
+
+// The answer where an entry that would be refused ends the trace: its number, if it is the first.
+fn ended(consumed: usize, refusal: u8) -> SubframeAnswer
+    ensures { λ r. ⌜ meaning-subframe r ≡ endsWith consumed refusal ⌝ }
+{
+    if consumed != 0 {
+        return SubframeAnswer::Nothing;
+    }
+    SubframeAnswer::Refused(refusal)
+}
+
+// What is handed back.
+fn fed(
+    week: u16,
+    subframe: u16,
+    counts: [u8; 36],
+    answer: SubframeAnswer,
+    consumed: usize,
+) -> TraceFed
+    ensures { λ r. ⌜ ((h m : List ℕ) → outcome-all r h m ≡ fedOf week subframe counts (meaning-subframe answer) consumed h m) ⌝ }
+{
+    TraceFed {
+        collector: CollectSubframe {
+            week,
+            subframe,
+            counts,
+        },
+        answer,
+        consumed,
+    }
+}
+
+// Feeds the entries, where neither the lent bytes nor the record are refused.
+fn feed_entries(
+    collector: CollectSubframe,
+    hkroot: &mut [u8],
+    mack: &mut [u8],
+    trace: &[u8],
+) -> TraceFed
+    requires { ⌜ refusalOf (viewChecks (state collector (now hkroot) (now mack)) 1) ≡ 0 ⌝ }
+    ensures { λ r. ⌜ outcome-all r (now (hkroot .exit)) (now (mack .exit)) ≡ feedEach 0 (state collector (now (hkroot .entry)) (now (mack .entry))) (entriesOf (now (trace .entry))) ⌝ }
+{
+    let many = trace.len() / 12;
+    let mut week = collector.week;
+    let mut subframe = collector.subframe;
+    let mut counts = collector.counts;
+    let mut n = 0;
+    while n < many {
+        let entry = entry_at(trace, n);
+        let refusal = entry_refuses(entry);
+        if refusal != 0 {
+            return fed(week, subframe, counts, ended(n, refusal), n);
+        }
+        let a = 12 * n + 7;
+        let e = 12 * n + 12;
+        let page = &trace[a..e];
+        let taken = take_page(&mut counts, hkroot, mack, week, subframe, page, entry);
+        week = entry.week;
+        subframe = (entry.time / 30) as u16;
+        n += 1;
+        if completes(taken) {
+            let answer = subframe::answer_at(15, week, subframe);
+            return fed(week, subframe, counts, answer, n);
+        }
+    }
+    fed(week, subframe, counts, SubframeAnswer::Nothing, n)
+}
+
+// The refusal number of the lent bytes and the record; 0 for none.
+fn trace_refuses(collector: CollectSubframe, hkroot: &[u8], mack: &[u8], trace: &[u8]) -> u8
+    ensures { λ r. ⌜ r ≡ refusalOf (traceChecks (state collector (now (hkroot .entry)) (now (mack .entry))) (now (trace .entry))) ⌝ }
+{
+    if trace.len() % 12 != 0 {
+        return 1;
+    }
+    subframe::view_refuses(collector, hkroot, mack, 1)
+}
+
+// Feeds entries from the front until one completes a subframe, the trace ends, or before one that would be refused; tells how many it consumed, and the last answer.
+// Refuses 1 for lent bytes other than 540 and 2,160 or a trace that is not whole entries, 12 for the record, 2, 3, 4 for the first entry's satellite, week and time.
+pub fn feed_all(
+    collector: CollectSubframe,
+    hkroot: &mut [u8],
+    mack: &mut [u8],
+    trace: &[u8],
+) -> TraceFed
+    ensures { λ r. ⌜ FeedAll collector (now (hkroot .entry)) (now (mack .entry)) (now (trace .entry)) r (now (hkroot .exit)) (now (mack .exit)) ⌝ }
+{
+    let refusal = trace_refuses(collector, hkroot, mack, trace);
+    if refusal != 0 {
+        return TraceFed {
+            collector,
+            answer: SubframeAnswer::Refused(refusal),
+            consumed: 0,
+        };
+    }
+    feed_entries(collector, hkroot, mack, trace)
+}

@@ -1,0 +1,4 @@
+pub mod Decimals
+pub mod ReadArguments
+pub mod TextUnique
+pub mod Written

@@ -1,0 +1,67 @@
+-- `arguments::value`: before each turn the number of the first `i` digits is read.
+-- Assumes nothing.
+use mathlib.Core.Path.{_≡_, refl, sym, ap, _∙_}
+use mathlib.Core.List.{List}
+use Prim.Native.Nat.{ℕ, _≤_, _-_, min}
+use lib.ListN.{length, take}
+use lib.Seq.{take-all}
+use Rattle.texts.specs.Decimal.{number, most}
+use native.Mathlib.Omega.{arith}
+use borrow.Author.Needs.{needs}
+use Rattle.texts.proofs.Decimals.{number-none, number-more, digit-at}
+use Rattle.texts.proofs.arguments.value.Statement.{statement}
+use Rattle.texts.proofs.arguments.value.Tie as tie
+
+abbrev Inv-loop : tie.InvT-loop
+Inv-loop text n₀ i₀ n i = (i ≤ length text) × (n ≡ min (number (take i text)) most)
+
+abbrev μ-loop : tie.MeasureT-loop
+μ-loop text n₀ i₀ n i = length text - i
+
+loop-holds : tie.Need-loop-holds Inv-loop μ-loop
+loop-holds c = (omega arith, omega (arith, number-none (c .before .args .text .now)))
+
+shared-slice-read-wide : tie.Need-shared-slice-read-wide Inv-loop μ-loop
+shared-slice-read-wide c = omega arith
+
+wide-requires : tie.Need-wide-requires Inv-loop μ-loop
+wide-requires c κs = search needs
+
+sub-one-more : tie.Need-sub-one-more Inv-loop μ-loop
+sub-one-more c = let h = c .before .before .before .loop in omega (arith, digit-at (c .before .before .before .before .before .args .text .now) (h .i) (c .before .before .before .before .before .pre) (omega arith), c .wide .ensures)
+
+one-more-requires : tie.Need-one-more-requires Inv-loop μ-loop
+one-more-requires c κs = let h = c .before .before .before .loop in omega (arith, digit-at (c .before .before .before .before .before .args .text .now) (h .i) (c .before .before .before .before .before .pre) (omega arith), c .wide .ensures)
+
+add-i : tie.Need-add-i Inv-loop μ-loop
+add-i c = omega arith
+
+loop-less : tie.Need-loop-less Inv-loop μ-loop
+loop-less c = omega arith
+
+loop-again : tie.Need-loop-again Inv-loop μ-loop
+loop-again c =
+    let h = c .before .before .before .before .loop in
+    (omega arith, number-more (c .before .before .before .before .before .before .args .text .now) (h .i) (omega arith) (h .inv .1) (c .before .wide .ensures) (c .one-more .ensures))
+
+returns : tie.Need-returns Inv-loop μ-loop
+returns c =
+    let t = c .before .before .before .args .text .now in
+    let h = c .before .loop in
+    h .inv .1 ∙ ap (λ (l : List ℕ). min (number l) most) (take-all (h .i) t (omega arith))
+
+pub value-spec : {M : Type 1} → statement M
+value-spec =
+    tie.close
+    (tie.spec
+    Inv-loop
+    μ-loop
+    loop-holds
+    shared-slice-read-wide
+    wide-requires
+    sub-one-more
+    one-more-requires
+    add-i
+    loop-less
+    loop-again
+    returns)

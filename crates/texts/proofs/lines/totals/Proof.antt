@@ -1,0 +1,70 @@
+-- `lines::totals`: its five parts, one after the other.
+-- Assumes nothing.
+use mathlib.Core.List.{[], _∷_}
+use Rattle.texts.specs.Lines.{_of_, bytes}
+use Rattle.texts.proofs.Written.{begun-none, line-done}
+use borrow.Author.Needs.{needs}
+use Rattle.texts.proofs.lines.totals.Statement.{statement}
+use Rattle.texts.proofs.lines.totals.Tie as tie
+
+slice-aggregate-put-part : tie.Need-slice-aggregate-put-part
+slice-aggregate-put-part c = search needs
+
+put-part-requires : tie.Need-put-part-requires
+put-part-requires c κs = search needs
+
+slice-aggregate-put-part-2 : tie.Need-slice-aggregate-put-part-2
+slice-aggregate-put-part-2 c = search needs
+
+put-part-requires-2 : tie.Need-put-part-requires-2
+put-part-requires-2 c κs = search needs
+
+slice-aggregate-put-part-3 : tie.Need-slice-aggregate-put-part-3
+slice-aggregate-put-part-3 c = search needs
+
+put-part-requires-3 : tie.Need-put-part-requires-3
+put-part-requires-3 c κs = search needs
+
+slice-aggregate-put-part-4 : tie.Need-slice-aggregate-put-part-4
+slice-aggregate-put-part-4 c = search needs
+
+put-part-requires-4 : tie.Need-put-part-requires-4
+put-part-requires-4 c κs = search needs
+
+slice-aggregate-put-part-5 : tie.Need-slice-aggregate-put-part-5
+slice-aggregate-put-part-5 c = search needs
+
+put-part-requires-5 : tie.Need-put-part-requires-5
+put-part-requires-5 c κs = search needs
+
+put-end-requires : tie.Need-put-end-requires
+put-end-requires c κs = search needs
+
+returns : tie.Need-returns
+unfolding bytes
+returns c =
+    let a = c .before .before .before .before .before .before .before .before .before .before .before .before .before .before .before .before .before .before .before .before .before .before .before .before .before .before .before .args in
+    let b0 = begun-none (a .out .now) in
+    let b1 = c .before .before .before .before .before .before .before .before .before .before .before .before .before .before .before .before .before .before .before .before .before .before .before .put-part .ensures .0 (a .out .now) _ b0 in
+    let b2 = c .before .before .before .before .before .before .before .before .before .before .before .before .before .before .before .before .before .before .put-part2 .ensures .0 (a .out .now) _ b1 in
+    let b3 = c .before .before .before .before .before .before .before .before .before .before .before .before .before .put-part3 .ensures .0 (a .out .now) _ b2 in
+    let b4 = c .before .before .before .before .before .before .before .before .put-part4 .ensures .0 (a .out .now) _ b3 in
+    let b5 = c .before .before .before .put-part5 .ensures .0 (a .out .now) _ b4 in
+    (line-done (a .out .now) ("pages " of a .pages ∷ " skipped " of a .skipped ∷ " subframes " of a .subframes ∷ " dsms " of a .dsms ∷ " tail " of a .tail ∷ []) (c .put-end .ensures .0 (a .out .now) _ b5), c .put-end .ensures .1)
+
+pub totals-spec : {M : Type 1} → statement M
+totals-spec =
+    tie.close
+    (tie.spec
+    slice-aggregate-put-part
+    put-part-requires
+    slice-aggregate-put-part-2
+    put-part-requires-2
+    slice-aggregate-put-part-3
+    put-part-requires-3
+    slice-aggregate-put-part-4
+    put-part-requires-4
+    slice-aggregate-put-part-5
+    put-part-requires-5
+    put-end-requires
+    returns)

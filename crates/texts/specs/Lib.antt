@@ -1,0 +1,4 @@
+pub mod Arguments
+pub mod Decimal
+pub mod Lines
+pub mod LinesInner

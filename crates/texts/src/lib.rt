@@ -1,0 +1,3 @@
+// The texts of the program `replay`: its arguments and its lines.
+pub mod arguments;
+pub mod lines;
