@@ -7,6 +7,7 @@ use Prim.Native.Nat.{ℕ}
 use Rattle.layouts.specs.Answer.{Answer, Copied, shown, copied}
 use Rattle.dsms.specs.Dsm as d
 use Rattle.dsms.specs.DsmPromises as dp
+use Rattle.dsms.specs.DsmView as dv
 use Rattle.subframes.specs.Subframe as s
 use Rattle.subframes.specs.SubframePromises as sp
 use Rattle.subframes.specs.Trace as tr
@@ -14,6 +15,7 @@ use Rattle.subframes.specs.TracePromises as tp
 use Rattle.storage.specs.Store as m
 use Rattle.storage.specs.StorePromises as mp
 use Rattle.dsms.specs.declared.dsm.CollectDsm.{CollectDsm}
+use Rattle.dsms.specs.declared.dsm.DsmAnswer.{DsmAnswer}
 use Rattle.dsms.specs.declared.dsm.DsmFed.{DsmFed}
 use Rattle.dsms.specs.declared.dsm.DsmShown.{DsmShown}
 use Rattle.subframes.specs.declared.subframe.CollectSubframe.{CollectSubframe}
@@ -61,6 +63,10 @@ pub dsm-viewed : (c : DsmRecord) (memory out : List ℕ) {f : CollectDsm} (sh : 
     → pd.DsmView c memory out t after
 dsm-viewed c memory out sh ef p q eo et =
     view-by out memory p q eo et ∙ ap (λ (x : CollectDsm). viewed out memory (d.view (dp.state x memory))) ef
+
+pub dsm-view-told : (c : DsmRecord) (memory : List ℕ) {f : CollectDsm} (x : DsmAnswer) {t : Told}
+    → f ≡ pd.collectorOf c → dv.ViewAnswer f memory x → t ≡ told (dp.meaning-dsm x) → pd.DsmViewAnswer c memory t
+dsm-view-told c memory x ef p et = et ∙ ap told p ∙ ap (λ (y : CollectDsm). told (dv.namedBy (dp.state y memory) (d.view (dp.state y memory)))) ef
 
 -- the subframe collector
 pub subframe-new : {c : CollectSubframe} {r : SubframeRecord} → sp.NewSubframe c → r ≡ ps.recordOf c → ps.SubframeNew r

@@ -48,6 +48,9 @@ pub probe-dsm-view : (c : DsmRecord) (memory out : List ℕ) (r q : Told) (x y :
     → pd.DsmView c memory out r x → pd.DsmView c memory out q y → (r ≡ q) × (x ≡ y)
 probe-dsm-view c memory out r q x y p o = let e = p ∙ sym o in (ap (λ (k : Viewed). k .answer) e, ap (λ (k : Viewed). k .out) e)
 
+pub probe-dsm-view-answer : (c : DsmRecord) (memory : List ℕ) (r q : Told) → pd.DsmViewAnswer c memory r → pd.DsmViewAnswer c memory q → r ≡ q
+probe-dsm-view-answer c memory r q p o = p ∙ sym o
+
 -- the subframe collector
 pub probe-subframe-new : (r q : SubframeRecord) → ps.SubframeNew r → ps.SubframeNew q → r ≡ q
 probe-subframe-new r q p o = ap subframe-back (p ∙ sym o)

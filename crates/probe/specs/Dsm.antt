@@ -1,10 +1,11 @@
--- The functions over the DSM collector: what `collectors` promises, told in numbers.
+-- The functions over the DSM collector: what `dsms` promises, told in numbers.
 -- Assumes nothing.
 use Prim.Native.Nat.{ℕ}
 use mathlib.Core.List.{List, []}
 use mathlib.Core.Path.{_≡_}
 use Rattle.dsms.specs.Dsm.{State, Fed, new, feed, view}
 use Rattle.dsms.specs.DsmPromises.{state}
+use Rattle.dsms.specs.DsmView.{namedBy}
 use Rattle.dsms.specs.declared.dsm.CollectDsm.{CollectDsm}
 use Rattle.probe.specs.Telling.{told, Viewed, viewed}
 use Rattle.probe.specs.declared.tell.Told.{Told}
@@ -36,3 +37,6 @@ DsmFeed c memory header block r after =
 abbrev pub DsmView : DsmRecord → List ℕ → List ℕ → Told → List ℕ → Type 0
 DsmView c memory out r out-after =
     _≡_ {A = Viewed} (record { answer = r; out = out-after }) (viewed out memory (view (state (collectorOf c) memory)))
+
+abbrev pub DsmViewAnswer : DsmRecord → List ℕ → Told → Type 0
+DsmViewAnswer c memory r = r ≡ told (namedBy (state (collectorOf c) memory) (view (state (collectorOf c) memory)))

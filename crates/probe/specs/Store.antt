@@ -1,4 +1,4 @@
--- The functions over the MACK store: what `collectors` promises, told in numbers.
+-- The functions over the MACK store: what `storage` promises, told in numbers.
 -- Assumes nothing.
 use Prim.Native.Nat.{ℕ}
 use mathlib.Core.List.{List}

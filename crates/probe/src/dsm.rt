@@ -3,7 +3,7 @@ use crate::tell;
 use crate::tell::Told;
 use dsms::dsm::CollectDsm;
 ghost use mathlib.Core.Path.{_≡_};
-ghost use Rattle.probe.specs.Dsm.{collectorOf, recordOf, DsmNew, DsmFeed, DsmView};
+ghost use Rattle.probe.specs.Dsm.{collectorOf, recordOf, DsmNew, DsmFeed, DsmView, DsmViewAnswer};
 
 #[repr(C)]
 pub struct DsmRecord {
@@ -80,4 +80,13 @@ pub extern "C" fn probe_dsm_view(collector: DsmRecord, dsm: &[u8], out: &mut [u8
     let part = dsms::dsm::view(from, dsm);
     tell::copy(part, out);
     tell::dsm_shown(shown)
+}
+
+// `dsm_view::view_answer`: what the struct `Dsm` holds, without its bytes.
+#[no_mangle]
+pub extern "C" fn probe_dsm_view_answer(collector: DsmRecord, dsm: &[u8]) -> Told
+    ensures { λ r. ⌜ DsmViewAnswer collector (now (dsm .entry)) r ⌝ }
+{
+    let from = collector_of(collector);
+    tell::dsm(dsms::dsm_view::view_answer(from, dsm))
 }

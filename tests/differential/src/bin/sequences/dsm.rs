@@ -36,8 +36,8 @@ pub struct Dsms {
     record: DsmRecord,
     dsm: Vec<u8>,
     zeros: bool,
-    /// The bytes that the Rust handed out, while its DSM is the same.
-    out: Option<Vec<u8>>,
+    /// The DSM that the Rust handed out, its name and its bytes, while its DSM is the same.
+    out: Option<(Told, Vec<u8>)>,
 }
 
 impl Dsms {
@@ -56,7 +56,7 @@ impl Dsms {
                     DsmType::Pkr => 1,
                 };
                 let told = Told::given(id.into(), kind, data.len() as u64);
-                self.out = Some(data);
+                self.out = Some((told, data));
                 told
             }
         })
@@ -90,17 +90,21 @@ impl Dsms {
         let number = refusal([(1, lent != DSM), (12, record.id > 15)]);
         let mut out = [0x5a; DSM + 1];
         let told = probe::dsm_view(record, &self.dsm[..lent], &mut out);
+        let named = probe::dsm_view_answer(record, &self.dsm[..lent]);
         let mut expected = [0x5a; DSM + 1];
-        let answer = match &self.out {
-            _ if number != 0 => Told::refused(number),
-            None => Told::NOTHING,
-            Some(data) => {
+        let (answer, name) = match &self.out {
+            _ if number != 0 => (Told::refused(number), Told::refused(number)),
+            None => (Told::NOTHING, Told::NOTHING),
+            Some((name, data)) => {
                 expected[..data.len()].copy_from_slice(data);
-                Told::given(0, data.len() as u64, 0)
+                (Told::given(0, data.len() as u64, 0), *name)
             }
         };
         if told != answer || out != expected {
             return Err(format!("view: {told:?} {}, expected {answer:?}", hex(&out)));
+        }
+        if named != name {
+            return Err(format!("view_answer: {named:?}, expected {name:?}"));
         }
         Ok(())
     }

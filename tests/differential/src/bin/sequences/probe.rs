@@ -150,6 +150,7 @@ mod c {
             out: *mut u8,
             out_len: usize,
         ) -> Told;
+        pub fn probe_dsm_view_answer(collector: DsmRecord, dsm: *const u8, dsm_len: usize) -> Told;
         pub safe fn probe_store_new() -> StoreRecord;
         pub fn probe_store_store(
             storage: StoreRecord,
@@ -228,6 +229,10 @@ pub fn subframe_hkroot_message(collector: SubframeRecord, h: &[u8], m: &[u8], sa
 
 pub fn dsm_feed(collector: DsmRecord, dsm: &mut [u8], header: u8, block: &[u8]) -> DsmCalled {
     unsafe { c::probe_dsm_feed(collector, dsm.as_mut_ptr(), dsm.len(), header, block.as_ptr(), block.len()) }
+}
+
+pub fn dsm_view_answer(collector: DsmRecord, dsm: &[u8]) -> Told {
+    unsafe { c::probe_dsm_view_answer(collector, dsm.as_ptr(), dsm.len()) }
 }
 
 pub fn dsm_view(collector: DsmRecord, dsm: &[u8], out: &mut [u8]) -> Told {
