@@ -77,19 +77,19 @@ same→eq (x ∷ xs) (y ∷ ys) t = rw (eqb→eq x y (both-left (eqb x y) (same 
 
 -- what the code takes out of its numbers: nt; the code of tag t in message m; the four bytes of message m, and how many are tags
 abbrev pub ntIn : ℕ → ℕ
-ntIn x = x / 2 ^ 54
+ntIn x = x / 2 ^ 60
 
 abbrev pub codeIn : ℕ → ℕ → ℕ → ℕ
-codeIn x m t = x / 2 ^ (54 - 27 * m - 3 * t) % 8
+codeIn x m t = x / 2 ^ (3 * (10 * m + t)) % 8
 
 abbrev pub half : ℕ → ℕ → ℕ
-half y m = y / 2 ^ (32 - 32 * m)
+half y m = y / 2 ^ (32 * m)
 
 abbrev pub fourIn : ℕ → List ℕ
-fourIn y = y / 2 ^ 24 % 256 ∷ y / 2 ^ 16 % 256 ∷ y / 2 ^ 8 % 256 ∷ y % 256 ∷ []
+fourIn y = y % 256 ∷ y / 2 ^ 8 % 256 ∷ y / 2 ^ 16 % 256 ∷ y / 2 ^ 24 % 256 ∷ []
 
 abbrev countIn : ℕ → ℕ
-countIn y = oneIfSome (y / 2 ^ 24 % 256) + oneIfSome (y / 2 ^ 16 % 256) + oneIfSome (y / 2 ^ 8 % 256) + oneIfSome (y % 256)
+countIn y = oneIfSome (y % 256) + oneIfSome (y / 2 ^ 8 % 256) + oneIfSome (y / 2 ^ 16 % 256) + oneIfSome (y / 2 ^ 24 % 256)
 
 abbrev slot-right : Row → ℕ → ℕ → Bool
 slot-right r m t = same (numbers (getD codedSlots (codeIn (rowNumber r) m t) flex)) (numbers (getD (slots m r) (t - 1) flex))

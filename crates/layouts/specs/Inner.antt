@@ -16,10 +16,10 @@ Inside (Refused n) len = Unit {0}
 
 -- The table as the code has it.
 
--- digits in a base behind a number, the first one highest
-abbrev pub written : ℕ → ℕ → List ℕ → ℕ
-written base n [] = n
-written base n (d ∷ ds) = written base (n * base + d) ds
+-- the number of these digits in a base, the first one lowest
+abbrev pub ofDigits : ℕ → List ℕ → ℕ
+ofDigits base [] = 0
+ofDigits base (d ∷ ds) = d + base * ofDigits base ds
 
 -- the slots that the code writes as 0 to 5
 abbrev pub codedSlots : List Slot
@@ -29,16 +29,17 @@ abbrev pub code : Slot → ℕ
 code (fixed adkd object) = cond (eqb adkd 0) (cond (eqb object 0) 1 2) (cond (eqb adkd 4) 3 (cond (eqb object 0) 4 5))
 code flex = 0
 
-abbrev pub nine : List Slot → List ℕ
-nine l = take 9 (map code l ++ replicate 9 0)
+-- ten digits: none for tag 0, and one for each of tags 1 to 9
+abbrev pub ten : List Slot → List ℕ
+ten l = take 10 (0 ∷ map code l ++ replicate 9 0)
 
--- nt and the slots of both messages
+-- the slots of both messages and nt
 unfoldable pub rowNumber : Row → ℕ
-rowNumber r = written 8 (r .nt) (nine (r .message0) ++ nine (r .message1))
+rowNumber r = ofDigits 8 (ten (r .message0) ++ ten (r .message1) ++ r .nt ∷ [])
 
 -- the FLX tags of both messages
 unfoldable pub flxNumber : Row → ℕ
-flxNumber r = written 256 0 (padded (flxOf 0 r) ++ padded (flxOf 1 r))
+flxNumber r = ofDigits 256 (padded (flxOf 0 r) ++ padded (flxOf 1 r))
 
 -- 1 for a tag, 0 for none
 abbrev pub oneIfSome : ℕ → ℕ

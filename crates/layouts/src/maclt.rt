@@ -31,30 +31,30 @@ pub struct FlxIndices {
     pub indices: [u8; 4],
 }
 
-// The table, a number for an ID, so that it is compiled to one load: a constant array that is indexed is written to the stack
-// at each call. nt, the slots of message 0 and those of message 1 from tag 1 on, in digits of base 8 (nt 10 is 12):
-// 1 00S, 2 00E, 3 04S, 4 12S, 5 12E, 0 FLX. What an ID has not is filled with 0, and so is an unknown ID.
+// The table, a number for an ID, of which the compiler makes a table of its own: a constant array that is indexed is written
+// to the stack at each call. In base 8, from the right: digit 10 m + t is the slot of tag t in message m, 1 for 00S, 2 for 00E,
+// 3 for 04S, 4 for 12S, 5 for 12E and 0 for FLX and what the ID has not; in front stands nt (12 is ten). An unknown ID has 0.
 fn row(maclt: u8) -> u64
     ensures { λ r. ⌜ r ≡ rowNumber (rowOf maclt table) ⌝ }
 {
     match maclt {
-        27 => 0o06_222420000_223420000,
-        28 => 0o12_222122422_221223422,
-        31 => 0o05_224200000_224300000,
-        33 => 0o06_232420000_224250000,
-        34 => 0o06_030420000_024250000,
-        35 => 0o06_030400000_004000000,
-        36 => 0o05_030400000_024500000,
-        37 => 0o05_232400000_224500000,
-        38 => 0o05_030400000_004000000,
-        39 => 0o04_030000000_024000000,
-        40 => 0o04_234000000_225000000,
-        41 => 0o04_030000000_004000000,
+        27 => 0o06_0000243220_0000242220,
+        28 => 0o12_2243221220_2242212220,
+        31 => 0o05_0000034220_0000024220,
+        33 => 0o06_0000524220_0000242320,
+        34 => 0o06_0000524200_0000240300,
+        35 => 0o06_0000004000_0000040300,
+        36 => 0o05_0000054200_0000040300,
+        37 => 0o05_0000054220_0000042320,
+        38 => 0o05_0000004000_0000040300,
+        39 => 0o04_0000004200_0000000300,
+        40 => 0o04_0000005220_0000004320,
+        41 => 0o04_0000004000_0000000300,
         _ => 0,
     }
 }
 
-// The FLX tags of message 0 and those of message 1, a byte for each, zeros behind.
+// The FLX tags of message 0 and then of message 1, four bytes each, from the right. Zeros are no tags.
 fn flx_tags(maclt: u8) -> u64
     ensures { λ r. ⌜ r ≡ flxNumber (rowOf maclt table) ⌝ }
 {
@@ -63,14 +63,14 @@ fn flx_tags(maclt: u8) -> u64
         28 => 0,
         31 => 0,
         33 => 0,
-        34 => 0x01030000_01000000,
-        35 => 0x01030500_01020405,
-        36 => 0x01030000_01000000,
+        34 => 0x00000001_00000301,
+        35 => 0x05040201_00050301,
+        36 => 0x00000001_00000301,
         37 => 0,
-        38 => 0x01030000_01020400,
-        39 => 0x01030000_01000000,
+        38 => 0x00040201_00000301,
+        39 => 0x00000001_00000301,
         40 => 0,
-        41 => 0x01030000_01020000,
+        41 => 0x00000201_00000301,
         _ => 0,
     }
 }
@@ -115,14 +115,14 @@ pub fn get_maclt_entry(maclt: u8, msg: usize, num_tag: usize) -> MacLTSlotAnswer
         return MacLTSlotAnswer::Refused(7);
     }
     let row = row(maclt);
-    let nt = row >> 54;
+    let nt = row >> 60;
     if nt == 0 {
         return MacLTSlotAnswer::Refused(8);
     }
     if nt <= num_tag as u64 {
         return MacLTSlotAnswer::Refused(9);
     }
-    let code = (row >> (54 - 27 * msg - 3 * num_tag)) % 8;
+    let code = (row >> (3 * (10 * msg + num_tag))) % 8;
     MacLTSlotAnswer::Slot(decoded(code as u8))
 }
 
@@ -152,17 +152,17 @@ pub fn get_flx_indices(maclt: u8, msg: usize) -> FlxIndices
             indices: [0; 4],
         };
     }
-    if row(maclt) >> 54 == 0 {
+    if row(maclt) >> 60 == 0 {
         return FlxIndices {
             count: Number::Refused(8),
             indices: [0; 4],
         };
     }
-    let tags = flx_tags(maclt) >> (32 - 32 * msg);
-    let a = (tags >> 24) % 256;
-    let b = (tags >> 16) % 256;
-    let c = (tags >> 8) % 256;
-    let d = tags % 256;
+    let tags = flx_tags(maclt) >> (32 * msg);
+    let a = tags % 256;
+    let b = (tags >> 8) % 256;
+    let c = (tags >> 16) % 256;
+    let d = (tags >> 24) % 256;
     FlxIndices {
         count: Number::Value(how_many(a, b, c, d)),
         indices: [a as u8, b as u8, c as u8, d as u8],
@@ -173,7 +173,7 @@ pub fn get_flx_indices(maclt: u8, msg: usize) -> FlxIndices
 pub fn nt(maclt: u8) -> Number
     ensures { λ r. ⌜ NtRead maclt r ⌝ }
 {
-    let nt = row(maclt) >> 54;
+    let nt = row(maclt) >> 60;
     if nt == 0 {
         return Number::Refused(8);
     }

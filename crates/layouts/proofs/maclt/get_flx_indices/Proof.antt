@@ -20,14 +20,14 @@ flx-tags-requires c κs = search needs
 mul-tags : tie.Need-mul-tags
 mul-tags c = search needs
 
-sub-tags : tie.Need-sub-tags
-sub-tags c = search needs
-
 shr-tags : tie.Need-shr-tags
 shr-tags c = search needs
 
 how-many-requires : tie.Need-how-many-requires
 how-many-requires c κs = search needs
+
+cast-t17 : tie.Need-cast-t17
+cast-t17 c = search needs
 
 cast-t18 : tie.Need-cast-t18
 cast-t18 c = search needs
@@ -37,9 +37,6 @@ cast-t19 c = search needs
 
 cast-t20 : tie.Need-cast-t20
 cast-t20 c = search needs
-
-cast-t21 : tie.Need-cast-t21
-cast-t21 c = search needs
 
 returns-3 : tie.Need-returns-3
 returns-3 c = search flx-given
@@ -53,11 +50,10 @@ get-flx-indices-spec =
     returns-2
     flx-tags-requires
     mul-tags
-    sub-tags
     shr-tags
     how-many-requires
+    cast-t17
     cast-t18
     cast-t19
     cast-t20
-    cast-t21
     returns-3)

@@ -24,17 +24,16 @@ returns-4 c = search entry-no-tag
 mul-code : tie.Need-mul-code
 mul-code c = search needs
 
-sub-code : tie.Need-sub-code
-sub-code c = search needs
+add-code : tie.Need-add-code
+add-code c = search needs
 
 mul-code-2 : tie.Need-mul-code-2
 mul-code-2 c = search needs
 
-sub-code-2 : tie.Need-sub-code-2
-sub-code-2 c = omega (arith, nt-few (c .before .before .before .before .before .args .maclt), nt-is (c .before .before .before .before .before .args .maclt) (c .before .before .row .ensures))
-
 shr-code : tie.Need-shr-code
-shr-code c = search needs
+shr-code c =
+    let k = c .before .before .before .before .before .args .maclt in
+    omega (arith, nt-few k, nt-is k (c .before .before .row .ensures))
 
 cast-decoded : tie.Need-cast-decoded
 cast-decoded c = search needs
@@ -55,9 +54,8 @@ get-maclt-entry-spec =
     returns-3
     returns-4
     mul-code
-    sub-code
+    add-code
     mul-code-2
-    sub-code-2
     shr-code
     cast-decoded
     decoded-requires
