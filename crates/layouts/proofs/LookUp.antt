@@ -1,84 +1,68 @@
--- Laws of the look-up table: the code's arrays are computed from the paper's table, and one test over all places, messages and tags ties them.
+-- Laws of the look-up table: the code's numbers are computed from the paper's table, and a test of each row says that they are read back as they were written.
 -- Assumes nothing.
-use mathlib.Core.Path.{_≡_, refl, ap, _∙_}
+use mathlib.Core.Path.{_≡_, refl, sym, ap, _∙_}
 use mathlib.Core.Bool.{Bool, true, false, cond}
 use mathlib.Core.List.{List, [], _∷_, _++_, map}
-use Prim.Native.Nat.{ℕ, zero, suc, _+_, _-_, _*_, _/_, _%_, _≤_, _<_}
-use native.Mathlib.Nat.{le-of-suc-le-suc, not-suc-le-zero}
-use native.Mathlib.Numerals.{add-one}
+use Prim.Native.Nat.{ℕ, zero, suc, _+_, _-_, _*_, _/_, _%_, _^_, _≤_, _<_}
 use native.Mathlib.Omega.{arith}
-use lib.Dec.{T, ltb, leb, eqb, eqb·suc-zero, ltb→lt, leb→le, eqb→eq}
-use lib.ListN.{length, getD, set, take, drop, replicate, List·getD-map, List·getD-eq-default}
-use lib.Seq.{drop-cons}
+use lib.Dec.{T, ltb, leb, eqb, eqb·suc-zero, leb→le, eqb→eq}
+use lib.ListN.{length, getD, replicate, List·getD-eq-default}
 use borrow.Author.Tests.{eq-eqb, ne-eqb, lt-ltb, le-ltb, le-leb, lt-leb}
 use Rattle.layouts.specs.Answer.{refused, gives, Copied, refusal, answered}
-use Rattle.layouts.specs.Maclt.{Slot, fixed, flex, Row, row, table, rowOf, slots, numbers, entry, flx, flxOf, padded, flxChecks, flxIndices, ntOf}
-use Rattle.layouts.specs.Inner.{placeOf, rowAt, codedSlots}
+use Rattle.layouts.specs.Maclt.{Slot, fixed, flex, Row, row, table, rowOf, slots, numbers, entry, flxOf, padded, flxChecks, flxIndices, ntOf}
+use Rattle.layouts.specs.MacltTable.{every}
+use Rattle.layouts.specs.Inner.{codedSlots, rowNumber, flxNumber, oneIfSome}
 use Rattle.layouts.specs.Meaning.{meaning-number}
 use Rattle.layouts.specs.declared.answer.Number.{Number}
 use Rattle.layouts.specs.declared.answer.Number.the-variants.{Value}
 use Rattle.layouts.proofs.Answers.{stop, pass, done}
-use Rattle.layouts.proofs.Tables.{holds-below, both-left, both-right}
+use Rattle.layouts.proofs.Tables.{below, holds-below, both-left, both-right}
 
--- The place of an ID.
-pub place-here : (k i : ℕ) (rs : List Row) → i < length rs → getD rs i (row 0 0 [] []) .id ≡ k → placeOf k (drop i rs) ≡ 0
-place-here k i rs h e = rw (drop-cons rs i (row 0 0 [] []) h, e, eq-eqb k k refl)
+-- The code's numbers, from its match.
+pub row-hit : {k n x : ℕ} → k ≡ n → x ≡ rowNumber (rowOf n table) → x ≡ rowNumber (rowOf k table)
+row-hit e h = rw e h
 
-pub place-on : (k i : ℕ) (rs : List Row) → i < length rs → (k ≡ getD rs i (row 0 0 [] []) .id → ⊥) → placeOf k (drop i rs) ≡ suc (placeOf k (drop (suc i) rs))
-place-on k i rs h ne = rw (drop-cons rs i (row 0 0 [] []) h, ne-eqb k (getD rs i (row 0 0 [] []) .id) ne)
+pub flx-hit : {k n x : ℕ} → k ≡ n → x ≡ flxNumber (rowOf n table) → x ≡ flxNumber (rowOf k table)
+flx-hit e h = rw e h
 
-row-place : (k : ℕ) (rs : List Row) → rowOf k rs ≡ getD rs (placeOf k rs) (row k 0 [] [])
-row-place k [] = refl
-row-place k (r ∷ rs) = go (eqb k (r .id)) (row-place k rs)
+-- none of the twelve IDs
+module _ {k : ℕ} (n27 : k ≡ 27 → ⊥) (n28 : k ≡ 28 → ⊥) (n31 : k ≡ 31 → ⊥) (n33 : k ≡ 33 → ⊥) (n34 : k ≡ 34 → ⊥) (n35 : k ≡ 35 → ⊥) (n36 : k ≡ 36 → ⊥) (n37 : k ≡ 37 → ⊥) (n38 : k ≡ 38 → ⊥) (n39 : k ≡ 39 → ⊥) (n40 : k ≡ 40 → ⊥) (n41 : k ≡ 41 → ⊥) where
+  unknown : rowOf k table ≡ row k 0 [] []
+  unfolding table
+  unknown = rw (ne-eqb k 27 n27, ne-eqb k 28 n28, ne-eqb k 31 n31, ne-eqb k 33 n33, ne-eqb k 34 n34, ne-eqb k 35 n35, ne-eqb k 36 n36, ne-eqb k 37 n37, ne-eqb k 38 n38, ne-eqb k 39 n39, ne-eqb k 40 n40, ne-eqb k 41 n41)
+
+  pub row-unknown : 0 ≡ rowNumber (rowOf k table)
+  unfolding rowNumber
+  row-unknown = rw unknown
+
+  pub flx-none : 0 ≡ flxNumber (rowOf k table)
+  unfolding flxNumber
+  flx-none = rw unknown
+
+-- a slot, by its code
+pub code-hit : {k n : ℕ} {r : List ℕ} → k ≡ n → r ≡ numbers (getD codedSlots n flex) → r ≡ numbers (getD codedSlots k flex)
+code-hit e h = rw e h
+
+pub code-flex : (k : ℕ) → (k ≡ 1 → ⊥) → (k ≡ 2 → ⊥) → (k ≡ 3 → ⊥) → (k ≡ 4 → ⊥) → (k ≡ 5 → ⊥) → [] ≡ numbers (getD codedSlots k flex)
+code-flex zero n1 n2 n3 n4 n5 = refl
+code-flex (suc k) n1 n2 n3 n4 n5 = ap numbers (sym (List·getD-eq-default codedSlots flex {n = suc k} (omega arith)))
+
+-- a byte that is a tag
+pub one-none : {t : ℕ} → t ≡ 0 → (0 ≡ oneIfSome t) × (0 ≤ 1)
+one-none {t} e = (rw (eq-eqb t 0 e), omega arith)
+
+pub one-some : {t : ℕ} → (t ≡ 0 → ⊥) → (1 ≡ oneIfSome t) × (1 ≤ 1)
+one-some {t} ne = (rw (ne-eqb t 0 ne), omega arith)
+
+-- A test of every row, and of one with no tag, is a test of the row of any ID.
+passes-on : (test : Row → Bool) (k : ℕ) (rs : List Row) → T (test (row k 0 [] [])) → T (every test rs) → T (test (rowOf k rs))
+passes-on test k [] e t = e
+passes-on test k (r ∷ rs) e t = go (eqb k (r .id)) (passes-on test k rs e (both-right (test r) (every test rs) t))
   where
-    go : (b : Bool) → rowOf k rs ≡ getD rs (placeOf k rs) (row k 0 [] [])
-        → cond b r (rowOf k rs) ≡ getD (r ∷ rs) (cond b 0 (suc (placeOf k rs))) (row k 0 [] [])
-    go true e = refl
-    go false e = e
+    go : (b : Bool) → T (test (rowOf k rs)) → T (test (cond b r (rowOf k rs)))
+    go true h = both-left (test r) (every test rs) t
+    go false h = h
 
-any-default : (rs : List Row) (i : ℕ) (d e : Row) → i < length rs → getD rs i d ≡ getD rs i e
-any-default [] i d e h = absurd (not-suc-le-zero h)
-any-default (r ∷ rs) zero d e h = refl
-any-default (r ∷ rs) (suc i) d e h = any-default rs i d e (le-of-suc-le-suc h)
-
-pub rows : length table ≡ 12
-unfolding table
-rows = refl
-
-module _ (k : ℕ) {i : ℕ} (e : i ≡ placeOf k table) where
-  pub row-found : i < 12 → rowOf k table ≡ rowAt i
-  row-found h = row-place k table ∙ rw (← e) (any-default table i (row k 0 [] []) (row 0 0 [] []) (rw rows h))
-
-  pub row-none : 12 ≤ i → rowOf k table .nt ≡ 0
-  row-none h =
-      let none : getD table (placeOf k table) (row k 0 [] []) ≡ row k 0 [] [] = rw (← e) (List·getD-eq-default table (row k 0 [] []) (rw rows h)) in
-      ap (λ (r : Row). r .nt) (row-place k table ∙ none)
-
--- The code's arrays.
-abbrev pub ids : List ℕ
-ids = map (λ (r : Row). r .id) table
-
-pub id-rule : (i : ℕ) → getD ids i 0 ≡ rowAt i .id
-id-rule i = List·getD-map (λ (r : Row). r .id) table i (row 0 0 [] [])
-
-abbrev pub nts : List ℕ
-nts = map (λ (r : Row). r .nt) table
-
-pub nt-rule : (i : ℕ) → getD nts i 0 ≡ rowAt i .nt
-nt-rule i = List·getD-map (λ (r : Row). r .nt) table i (row 0 0 [] [])
-
-abbrev code : Slot → ℕ
-code (fixed adkd object) = cond (eqb adkd 0) (cond (eqb object 0) 0 1) (cond (eqb adkd 4) 2 (cond (eqb object 0) 3 4))
-code flex = 5
-
-abbrev nine : List Slot → List ℕ
-nine l = take 9 (map code l ++ replicate 9 5)
-
-abbrev pub sequences : List Row → List (List ℕ)
-sequences [] = []
-sequences (r ∷ rs) = nine (r .message0) ∷ nine (r .message1) ∷ sequences rs
-
--- One test at place i, message m and tag t, where the ID has that tag.
 abbrev same : List ℕ → List ℕ → Bool
 same [] [] = true
 same [] (y ∷ ys) = false
@@ -91,107 +75,78 @@ same→eq [] (y ∷ ys) t = absurd t
 same→eq (x ∷ xs) [] t = absurd t
 same→eq (x ∷ xs) (y ∷ ys) t = rw (eqb→eq x y (both-left (eqb x y) (same xs ys) t), same→eq xs ys (both-right (eqb x y) (same xs ys) t))
 
-abbrev pub codeAt : ℕ → ℕ → ℕ → ℕ
-codeAt i m t = getD (getD (sequences table) (i * 2 + m) []) (t - 1) 0
+-- what the code takes out of its numbers: nt; the code of tag t in message m; the four bytes of message m, and how many are tags
+abbrev pub ntIn : ℕ → ℕ
+ntIn x = x / 2 ^ 60
 
--- the FLX tags before tag t
-abbrev pub before : ℕ → ℕ → ℕ → List ℕ
-before i m t = flx 1 (take (t - 1) (slots m (rowAt i)))
+abbrev pub codeIn : ℕ → ℕ → ℕ → ℕ
+codeIn x m t = x / 2 ^ (3 * (10 * m + t)) % 8
 
-abbrev slot-right : ℕ → ℕ → ℕ → Bool
-slot-right i m t = same (numbers (getD codedSlots (codeAt i m t) flex)) (numbers (getD (slots m (rowAt i)) (t - 1) flex))
+abbrev pub half : ℕ → ℕ → ℕ
+half y m = y / 2 ^ (32 * m)
 
-abbrev set-right : ℕ → ℕ → ℕ → Bool
-set-right i m t = same (set (padded (before i m t)) (length (before i m t)) t) (padded (before i m (suc t)))
+abbrev pub fourIn : ℕ → List ℕ
+fourIn y = y % 256 ∷ y / 2 ^ 8 % 256 ∷ y / 2 ^ 16 % 256 ∷ y / 2 ^ 24 % 256 ∷ []
 
-abbrev count-right : ℕ → ℕ → ℕ → Bool
-count-right i m t = cond (ltb (length (before i m t)) 4) (eqb (suc (length (before i m t))) (length (before i m (suc t)))) false
+abbrev countIn : ℕ → ℕ
+countIn y = oneIfSome (y % 256) + oneIfSome (y / 2 ^ 8 % 256) + oneIfSome (y / 2 ^ 16 % 256) + oneIfSome (y / 2 ^ 24 % 256)
 
-abbrev turn-right : ℕ → ℕ → ℕ → Bool
-turn-right i m t =
-    cond (eqb (codeAt i m t) 5) (cond (set-right i m t) (count-right i m t) false) (same (before i m t) (before i m (suc t)))
+abbrev slot-right : Row → ℕ → ℕ → Bool
+slot-right r m t = same (numbers (getD codedSlots (codeIn (rowNumber r) m t) flex)) (numbers (getD (slots m r) (t - 1) flex))
 
-abbrev right : ℕ → ℕ → ℕ → Bool
-right i m t = cond (ltb 0 t) (cond (ltb t (rowAt i .nt)) (cond (slot-right i m t) (turn-right i m t) false) true) true
+abbrev tag-right : Row → ℕ → ℕ → Bool
+tag-right r m t = cond (ltb 0 t) (cond (ltb t (r .nt)) (slot-right r m t) true) true
 
-all-right : (n : ℕ) → n < 240 → T (right (n / 20) (n / 10 % 2) (n % 10))
-unfolding table
-all-right = holds-below 240 (λ n. right (n / 20) (n / 10 % 2) (n % 10)) tt
+abbrev flx-right : Row → ℕ → Bool
+flx-right r m = cond (same (fourIn (half (flxNumber r) m)) (padded (flxOf m r))) (eqb (countIn (half (flxNumber r) m)) (length (flxOf m r))) false
 
--- nt is 1 to 10
-pub nt-one : (i : ℕ) → i < 12 → 1 ≤ rowAt i .nt
-unfolding table
-nt-one i h = ltb→lt 0 (rowAt i .nt) (holds-below 12 (λ k. ltb 0 (rowAt k .nt)) tt i h)
+module _ (k : ℕ) where
+  pub nt-rule : ntIn (rowNumber (rowOf k table)) ≡ rowOf k table .nt
+  unfolding table rowNumber
+  nt-rule = eqb→eq _ _ (passes-on (λ (r : Row). eqb (ntIn (rowNumber r)) (r .nt)) k table tt tt)
 
-pub nt-some : (i : ℕ) → i < 12 → rowAt i .nt ≡ 0 → ⊥
-nt-some i h e = omega (arith, nt-one i h)
+  pub nt-few : rowOf k table .nt ≤ 10
+  unfolding table
+  nt-few = leb→le _ _ (passes-on (λ (r : Row). leb (r .nt) 10) k table tt tt)
 
-pub nt-few : (i : ℕ) → i < 12 → rowAt i .nt ≤ 10
-unfolding table
-nt-few i h = leb→le _ _ (holds-below 12 (λ k. leb (rowAt k .nt) 10) tt i h)
+  all-right : T (below 20 (λ (n : ℕ). tag-right (rowOf k table) (n / 10) (n % 10)))
+  unfolding table rowNumber
+  all-right = passes-on (λ (r : Row). below 20 (λ (n : ℕ). tag-right r (n / 10) (n % 10))) k table tt tt
 
--- the test, at a tag that the ID has
-module _ (i m t : ℕ) (hi : i < 12) (hm : m ≤ 1) (h0 : t ≡ 0 → ⊥) (ht : t < rowAt i .nt) where
-  passes : T (cond (slot-right i m t) (turn-right i m t) false)
-  passes =
-      let few : rowAt i .nt ≤ 10 = nt-few i hi in
-      let n : ℕ = i * 20 + m * 10 + t in
-      let ei : n / 20 ≡ i = omega arith in
-      let em : n / 10 % 2 ≡ m = omega arith in
+  slot-rule : (m t : ℕ) → m ≤ 1 → (t ≡ 0 → ⊥) → t < rowOf k table .nt
+      → numbers (getD codedSlots (codeIn (rowNumber (rowOf k table)) m t) flex) ≡ numbers (getD (slots m (rowOf k table)) (t - 1) flex)
+  slot-rule m t hm h0 ht =
+      let few : rowOf k table .nt ≤ 10 = nt-few in
+      let n : ℕ = m * 10 + t in
+      let em : n / 10 ≡ m = omega arith in
       let et : n % 10 ≡ t = omega arith in
-      let ok : T (right i m t) = rw (ei, em, et) at (all-right n (omega arith)) in
-      rw (lt-ltb 0 t (omega arith), lt-ltb t (rowAt i .nt) ht) at ok
+      let ok : T (tag-right (rowOf k table) m t) = rw (em, et) at (holds-below 20 (λ (n : ℕ). tag-right (rowOf k table) (n / 10) (n % 10)) all-right n (omega arith)) in
+      same→eq _ _ (rw (lt-ltb 0 t (omega arith), lt-ltb t (rowOf k table .nt) ht) at ok)
 
-  pub slot-rule : numbers (getD codedSlots (codeAt i m t) flex) ≡ numbers (getD (slots m (rowAt i)) (t - 1) flex)
-  slot-rule = same→eq _ _ (both-left (slot-right i m t) (turn-right i m t) passes)
+  flx-all : T (below 2 (λ (m : ℕ). flx-right (rowOf k table) m))
+  unfolding table flxNumber
+  flx-all = passes-on (λ (r : Row). below 2 (λ (m : ℕ). flx-right r m)) k table tt tt
 
-  turn : T (turn-right i m t)
-  turn = both-right (slot-right i m t) (turn-right i m t) passes
+  module _ (m : ℕ) (hm : m ≤ 1) where
+    ok : T (flx-right (rowOf k table) m)
+    ok = holds-below 2 (λ (m : ℕ). flx-right (rowOf k table) m) flx-all m (omega arith)
 
-  -- a turn of the loop that collects the FLX tags
-  flex-turn : codeAt i m t ≡ 5 → T (cond (set-right i m t) (count-right i m t) false)
-  flex-turn e = rw (eq-eqb (codeAt i m t) 5 e) at turn
+    four-rule : fourIn (half (flxNumber (rowOf k table)) m) ≡ padded (flxOf m (rowOf k table))
+    four-rule = same→eq _ _ (both-left (same (fourIn (half (flxNumber (rowOf k table)) m)) (padded (flxOf m (rowOf k table)))) (eqb (countIn (half (flxNumber (rowOf k table)) m)) (length (flxOf m (rowOf k table)))) ok)
 
-  counted : codeAt i m t ≡ 5 → T (count-right i m t)
-  counted e = both-right (set-right i m t) (count-right i m t) (flex-turn e)
+    count-rule : countIn (half (flxNumber (rowOf k table)) m) ≡ length (flxOf m (rowOf k table))
+    count-rule = eqb→eq _ _ (both-right (same (fourIn (half (flxNumber (rowOf k table)) m)) (padded (flxOf m (rowOf k table)))) (eqb (countIn (half (flxNumber (rowOf k table)) m)) (length (flxOf m (rowOf k table)))) ok)
 
-  flex-room : codeAt i m t ≡ 5 → length (before i m t) < 4
-  flex-room e = ltb→lt _ _ (both-left (ltb (length (before i m t)) 4) (eqb (suc (length (before i m t))) (length (before i m (suc t)))) (counted e))
+-- nt, from the code's number
+module _ (k : ℕ) {x : ℕ} (e : x ≡ rowNumber (rowOf k table)) where
+  pub nt-is : ntIn x ≡ rowOf k table .nt
+  nt-is = ap ntIn e ∙ nt-rule k
 
-  flex-count : codeAt i m t ≡ 5 → length (before i m t) + 1 ≡ length (before i m (t + 1))
-  flex-count e =
-      rw (add-one (length (before i m t)), add-one t)
-      (eqb→eq _ _ (both-right (ltb (length (before i m t)) 4) (eqb (suc (length (before i m t))) (length (before i m (suc t)))) (counted e)))
+  pub nt-none : ntIn x ≡ 0 → rowOf k table .nt ≡ 0
+  nt-none h = sym nt-is ∙ h
 
-  flex-set : codeAt i m t ≡ 5 → set (padded (before i m t)) (length (before i m t)) t ≡ padded (before i m (t + 1))
-  flex-set e = rw (add-one t) (same→eq _ _ (both-left (set-right i m t) (count-right i m t) (flex-turn e)))
-
-  fixed-same : (codeAt i m t ≡ 5 → ⊥) → before i m t ≡ before i m (t + 1)
-  fixed-same ne = rw (add-one t) (same→eq _ _ (rw (ne-eqb (codeAt i m t) 5 ne) at turn))
-
-  -- the same, of what the loop holds
-  module _ {n : ℕ} {l : List ℕ} (en : n ≡ length (before i m t)) (el : l ≡ padded (before i m t)) where
-    pub room : codeAt i m t ≡ 5 → n < 4
-    room e = rw en (flex-room e)
-
-    pub more : codeAt i m t ≡ 5 → (n + 1 ≡ length (before i m (t + 1))) × (set l n t ≡ padded (before i m (t + 1)))
-    more e = (ap (λ (k : ℕ). k + 1) en ∙ flex-count e, rw (en, el) (flex-set e))
-
-    pub kept : (codeAt i m t ≡ 5 → ⊥) → (n ≡ length (before i m (t + 1))) × (l ≡ padded (before i m (t + 1)))
-    kept ne = (en ∙ ap length (fixed-same ne), el ∙ ap padded (fixed-same ne))
-
--- at nt all tags have been passed
-pub flx-all : (i m : ℕ) → i < 12 → m ≤ 1 → before i m (rowAt i .nt) ≡ flxOf m (rowAt i)
-unfolding table
-flx-all i m hi hm =
-    let n : ℕ = i * 2 + m in
-    let ei : n / 2 ≡ i = omega arith in
-    let em : n % 2 ≡ m = omega arith in
-    same→eq _ _ (rw (ei, em) at (holds-below 24 (λ k. same (before (k / 2) (k % 2) (rowAt (k / 2) .nt)) (flxOf (k % 2) (rowAt (k / 2)))) tt n (omega arith)))
-
--- a slot, by its code
-pub code-hit : {k n : ℕ} {r : List ℕ} → k ≡ n → r ≡ numbers (getD codedSlots n flex) → r ≡ numbers (getD codedSlots k flex)
-code-hit e h = rw e h
+  pub nt-some : (ntIn x ≡ 0 → ⊥) → rowOf k table .nt ≡ 0 → ⊥
+  nt-some ne h = ne (nt-is ∙ h)
 
 -- The answers, each from the tests that lead to it.
 module _ (k m t : ℕ) where
@@ -204,30 +159,26 @@ module _ (k m t : ℕ) where
     unfolding entry
     entry-tag e = pass 7 _ _ _ (le-ltb 1 m hm) (stop 7 _ _ _ tt (eq-eqb t 0 e))
 
-    module _ (h0 : t ≡ 0 → ⊥) {i : ℕ} (e : i ≡ placeOf k table) where
-      pub entry-unknown : 12 ≤ i → refused 8 ≡ entry k m t
+    module _ (h0 : t ≡ 0 → ⊥) {x : ℕ} (e : x ≡ rowNumber (rowOf k table)) where
+      pub entry-unknown : ntIn x ≡ 0 → refused 8 ≡ entry k m t
       unfolding entry
-      entry-unknown h = pass 7 _ _ _ (le-ltb 1 m hm) (pass 7 _ _ _ (ne-eqb t 0 h0) (stop 8 _ _ _ tt (eq-eqb _ 0 (row-none k e h))))
+      entry-unknown h = pass 7 _ _ _ (le-ltb 1 m hm) (pass 7 _ _ _ (ne-eqb t 0 h0) (stop 8 _ _ _ tt (eq-eqb _ 0 (nt-none k e h))))
 
-      module _ (h : i < 12) where
-        found : rowOf k table ≡ rowAt i
-        found = row-found k e h
-
+      module _ (h : ntIn x ≡ 0 → ⊥) where
         known : eqb (rowOf k table .nt) 0 ≡ false
-        known = ne-eqb (rowOf k table .nt) 0 (rw found (nt-some i h))
+        known = ne-eqb (rowOf k table .nt) 0 (nt-some k e h)
 
-        pub entry-no-tag : getD nts i 0 ≤ t → refused 9 ≡ entry k m t
+        pub entry-no-tag : ntIn x ≤ t → refused 9 ≡ entry k m t
         unfolding entry
         entry-no-tag g =
-            let g : rowOf k table .nt ≤ t = rw (found, ← nt-rule i) g in
-            pass 7 _ _ _ (le-ltb 1 m hm) (pass 7 _ _ _ (ne-eqb t 0 h0) (pass 8 _ _ _ known (stop 9 _ _ _ tt (le-leb (rowOf k table .nt) t g))))
+            let over : rowOf k table .nt ≤ t = rw (nt-is k e) at g in
+            pass 7 _ _ _ (le-ltb 1 m hm) (pass 7 _ _ _ (ne-eqb t 0 h0) (pass 8 _ _ _ known (stop 9 _ _ _ tt (le-leb (rowOf k table .nt) t over))))
 
-        pub entry-slot : {r : List ℕ} → t < getD nts i 0 → r ≡ numbers (getD codedSlots (codeAt i m t) flex) → gives r ≡ entry k m t
+        pub entry-slot : {r : List ℕ} → t < ntIn x → r ≡ numbers (getD codedSlots (codeIn x m t) flex) → gives r ≡ entry k m t
         unfolding entry
         entry-slot g q =
-            let less : t < rowAt i .nt = rw (nt-rule i) at g in
-            let under : t < rowOf k table .nt = rw found less in
-            let slot : numbers (getD codedSlots (codeAt i m t) flex) ≡ numbers (getD (slots m (rowOf k table)) (t - 1) flex) = rw found (slot-rule i m t h hm h0 less) in
+            let under : t < rowOf k table .nt = rw (nt-is k e) at g in
+            let slot : numbers (getD codedSlots (codeIn x m t) flex) ≡ numbers (getD (slots m (rowOf k table)) (t - 1) flex) = rw e (slot-rule k m t hm h0 under) in
             pass 7 _ _ _ (le-ltb 1 m hm) (pass 7 _ _ _ (ne-eqb t 0 h0) (pass 8 _ _ _ known (pass 9 _ _ _ (lt-leb (rowOf k table .nt) t under) (done _ (ap gives (q ∙ slot))))))
 
 -- the FLX tags, and nt
@@ -240,23 +191,23 @@ module _ (k m : ℕ) where
   unfolding refusal
   flx-message h = refused-bytes 6 (rw (lt-ltb 1 m h))
 
-  module _ (hm : m ≤ 1) {i : ℕ} (e : i ≡ placeOf k table) where
-    pub flx-unknown : 12 ≤ i → _≡_ {A = Copied} (record { answer = refused 8; bytes = replicate 4 0 }) (flxIndices k m)
+  module _ (hm : m ≤ 1) {x : ℕ} (e : x ≡ rowNumber (rowOf k table)) where
+    pub flx-unknown : ntIn x ≡ 0 → _≡_ {A = Copied} (record { answer = refused 8; bytes = replicate 4 0 }) (flxIndices k m)
     unfolding refusal
-    flx-unknown h = refused-bytes 7 (rw (le-ltb 1 m hm, eq-eqb (rowOf k table .nt) 0 (row-none k e h)))
+    flx-unknown h = refused-bytes 7 (rw (le-ltb 1 m hm, eq-eqb (rowOf k table .nt) 0 (nt-none k e h)))
 
-    pub flx-given : {x : Number} {l : List ℕ} → i < 12 → x ≡ Value (length (flxOf m (rowAt i))) → l ≡ padded (flxOf m (rowAt i))
-        → _≡_ {A = Copied} (record { answer = meaning-number x; bytes = l }) (flxIndices k m)
+    pub flx-given : {n y : ℕ} → (ntIn x ≡ 0 → ⊥) → y ≡ flxNumber (rowOf k table) → n ≡ countIn (half y m)
+        → _≡_ {A = Copied} (record { answer = gives (n ∷ []); bytes = fourIn (half y m) }) (flxIndices k m)
     unfolding flxIndices answered refusal
-    flx-given h en el =
-        rw (le-ltb 1 m hm, ne-eqb (rowOf k table .nt) 0 (rw (row-found k e h) (nt-some i h)), row-found k e h, en, el)
+    flx-given h ey en =
+        rw (le-ltb 1 m hm, ne-eqb (rowOf k table .nt) 0 (nt-some k e h), en, ey, four-rule k m hm, count-rule k m hm)
 
-pub nt-unknown : (k : ℕ) {i : ℕ} → i ≡ placeOf k table → 12 ≤ i → refused 8 ≡ ntOf k
+pub nt-unknown : (k : ℕ) {x : ℕ} → x ≡ rowNumber (rowOf k table) → ntIn x ≡ 0 → refused 8 ≡ ntOf k
 unfolding ntOf
-nt-unknown k e h = stop 8 _ _ _ tt (eq-eqb (rowOf k table .nt) 0 (row-none k e h))
+nt-unknown k e h = stop 8 _ _ _ tt (eq-eqb (rowOf k table .nt) 0 (nt-none k e h))
 
-pub nt-given : (k : ℕ) {i : ℕ} → i ≡ placeOf k table → i < 12 → gives (getD nts i 0 ∷ []) ≡ ntOf k
+pub nt-given : (k : ℕ) {x : ℕ} → x ≡ rowNumber (rowOf k table) → (ntIn x ≡ 0 → ⊥) → gives (ntIn x ∷ []) ≡ ntOf k
 unfolding ntOf
-nt-given k {i} e h =
-    pass 8 _ _ _ (ne-eqb (rowOf k table .nt) 0 (rw (row-found k e h) (nt-some i h)))
-    (done _ (rw (nt-rule i, row-found k e h)))
+nt-given k {x} e h =
+    pass 8 _ _ _ (ne-eqb (rowOf k table .nt) 0 (nt-some k e h))
+    (done _ (rw (nt-is k e)))

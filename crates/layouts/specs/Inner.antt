@@ -1,11 +1,11 @@
 -- What the private functions of the code do. No promise of a public function cites this file.
 -- Assumes nothing.
-use Prim.Native.Nat.{ℕ, suc, _+_, _≤_}
-use mathlib.Core.List.{List, [], _∷_}
+use Prim.Native.Nat.{ℕ, _+_, _*_, _≤_}
+use mathlib.Core.List.{List, [], _∷_, _++_, map}
 use mathlib.Core.Bool.{cond}
-use lib.ListN.{getD}
+use lib.ListN.{take, replicate}
 use lib.Dec.{eqb}
-use Rattle.layouts.specs.Maclt.{Slot, fixed, Row, row, table}
+use Rattle.layouts.specs.Maclt.{Slot, fixed, flex, Row, flxOf, padded}
 use Rattle.layouts.specs.declared.answer.Part.{Part}
 use Rattle.layouts.specs.declared.answer.Part.the-variants.{Shown, Refused}
 
@@ -14,14 +14,33 @@ abbrev pub Inside : Part → ℕ → Type 0
 Inside (Shown first many) len = first + many ≤ len
 Inside (Refused n) len = Unit {0}
 
--- the place of an ID's row, the number of rows where there is none; and the row at a place
-abbrev pub placeOf : ℕ → List Row → ℕ
-placeOf i [] = 0
-placeOf i (r ∷ rs) = cond (eqb i (r .id)) 0 (suc (placeOf i rs))
+-- The table as the code has it.
 
-abbrev pub rowAt : ℕ → Row
-rowAt n = getD table n (row 0 0 [] [])
+-- the number of these digits in a base, the first one lowest
+abbrev pub ofDigits : ℕ → List ℕ → ℕ
+ofDigits base [] = 0
+ofDigits base (d ∷ ds) = d + base * ofDigits base ds
 
--- the slots that the code writes as 0 to 4; any other is FLX
+-- the slots that the code writes as 0 to 5
 abbrev pub codedSlots : List Slot
-codedSlots = fixed 0 0 ∷ fixed 0 1 ∷ fixed 4 0 ∷ fixed 12 0 ∷ fixed 12 1 ∷ []
+codedSlots = flex ∷ fixed 0 0 ∷ fixed 0 1 ∷ fixed 4 0 ∷ fixed 12 0 ∷ fixed 12 1 ∷ []
+
+abbrev pub code : Slot → ℕ
+code (fixed adkd object) = cond (eqb adkd 0) (cond (eqb object 0) 1 2) (cond (eqb adkd 4) 3 (cond (eqb object 0) 4 5))
+code flex = 0
+
+-- ten digits: none for tag 0, and one for each of tags 1 to 9
+abbrev pub ten : List Slot → List ℕ
+ten l = take 10 (0 ∷ map code l ++ replicate 9 0)
+
+-- the slots of both messages and nt
+unfoldable pub rowNumber : Row → ℕ
+rowNumber r = ofDigits 8 (ten (r .message0) ++ ten (r .message1) ++ r .nt ∷ [])
+
+-- the FLX tags of both messages
+unfoldable pub flxNumber : Row → ℕ
+flxNumber r = ofDigits 256 (padded (flxOf 0 r) ++ padded (flxOf 1 r))
+
+-- 1 for a tag, 0 for none
+abbrev pub oneIfSome : ℕ → ℕ
+oneIfSome tag = cond (eqb tag 0) 0 1

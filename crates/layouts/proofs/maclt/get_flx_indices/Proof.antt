@@ -8,18 +8,52 @@ use Rattle.layouts.proofs.maclt.get_flx_indices.Tie as tie
 returns : tie.Need-returns
 returns c = search flx-message
 
-place-requires : tie.Need-place-requires
-place-requires c κs = search needs
+row-requires : tie.Need-row-requires
+row-requires c κs = search needs
 
 returns-2 : tie.Need-returns-2
 returns-2 c = search flx-unknown
 
-flx-at-requires : tie.Need-flx-at-requires
-flx-at-requires c κs = search needs
+flx-tags-requires : tie.Need-flx-tags-requires
+flx-tags-requires c κs = search needs
+
+mul-tags : tie.Need-mul-tags
+mul-tags c = search needs
+
+shr-tags : tie.Need-shr-tags
+shr-tags c = search needs
+
+how-many-requires : tie.Need-how-many-requires
+how-many-requires c κs = search needs
+
+cast-t17 : tie.Need-cast-t17
+cast-t17 c = search needs
+
+cast-t18 : tie.Need-cast-t18
+cast-t18 c = search needs
+
+cast-t19 : tie.Need-cast-t19
+cast-t19 c = search needs
+
+cast-t20 : tie.Need-cast-t20
+cast-t20 c = search needs
 
 returns-3 : tie.Need-returns-3
-returns-3 c = let a = c .before .before .before .before .args in flx-given (a .maclt) (a .msg) (c .before .before .before .if1 .left) (c .before .before .place .ensures) (c .before .if2 .left) (c .flx-at .ensures .0) (c .flx-at .ensures .1)
+returns-3 c = search flx-given
 
 pub get-flx-indices-spec : {M : Type 1} → statement M
 get-flx-indices-spec =
-    tie.close (tie.spec returns place-requires returns-2 flx-at-requires returns-3)
+    tie.close
+    (tie.spec
+    returns
+    row-requires
+    returns-2
+    flx-tags-requires
+    mul-tags
+    shr-tags
+    how-many-requires
+    cast-t17
+    cast-t18
+    cast-t19
+    cast-t20
+    returns-3)
