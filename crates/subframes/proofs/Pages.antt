@@ -25,21 +25,6 @@ use Rattle.subframes.specs.declared.subframe.CollectSubframe.{CollectSub
 use Rattle.subframes.specs.declared.subframe.SubframeShown.{SubframeShown}
 use Rattle.subframes.specs.declared.subframe.SubframeShown.the-variants.{Shown, Nothing as NothingShown, Refused as NotShown}
 
--- Every count is small: the loop's three ways.
-small-at : (l : List ℕ) (i : ℕ) → i < length l → small (drop i l) ≡ (leb (getD l i 0) 15 && small (drop (i + 1) l))
-unfolding small
-small-at l i h = rw (add-one, drop-cons l i 0 h)
-
-pub small-stop : (l : List ℕ) (i : ℕ) → i < length l → 15 < getD l i 0 → small (drop i l) ≡ small l → false ≡ small l
-small-stop l i h b e = sym (rw (lt-leb _ _ b) at (small-at l i h)) ∙ e
-
-pub small-go : (l : List ℕ) (i : ℕ) → i < length l → getD l i 0 ≤ 15 → small (drop i l) ≡ small l → small (drop (i + 1) l) ≡ small l
-small-go l i h b e = sym (rw (le-leb _ _ b) at (small-at l i h)) ∙ e
-
-pub small-end : (l : List ℕ) (i : ℕ) → length l ≤ i → small (drop i l) ≡ small l → true ≡ small l
-unfolding small
-small-end l i h e = sym (ap small (drop-of-length-le l h)) ∙ e
-
 -- The refusals.
 module _ (s : State) (n : ℕ) where
   pub other-hkroot : (length (s .hkroot) ≡ 540 → ⊥) → 1 ≡ refusal (viewChecks s n)

@@ -10,7 +10,7 @@ ghost use lib.ListN.{length, take, drop};
 ghost use Rattle.layouts.specs.Answer.{shown as shownOf, refusal as refusalOf};
 ghost use Rattle.subframes.specs.Subframe.{Page, small, viewChecks, feedChecks};
 ghost use Rattle.subframes.specs.PageInner.{answerOf};
-ghost use Rattle.subframes.specs.SubframeInner.{Inside};
+ghost use Rattle.subframes.specs.SubframeInner.{Inside, Joined, eightOf};
 ghost use Rattle.subframes.specs.SubframePromises.{state, meaning-subframe, meaning-shown, NewSubframe, TakeWord, FeedSubframe, sizeOf, ViewSubframeShown, ViewSubframe, HkrootMessageRead};
 
 // How many words of a satellite's subframe have come, and to which subframe they belong; the bytes are lent by the caller.
@@ -107,16 +107,36 @@ pub fn new() -> CollectSubframe
     }
 }
 
+// Four counts as one number. By numbers of eight counts and not one by one, `all_small` reads the record as it was written: a load across two stores waits for both.
+fn joined(a: u8, b: u8, c: u8, d: u8) -> u64
+    ensures { λ r. ⌜ Joined a b c d r ⌝ }
+{
+    ((d as u64 * 256 + c as u64) * 256 + b as u64) * 256 + a as u64
+}
+
+// Whether eight counts, from the one at `i` on, are at most 15.
+fn eight_small(counts: [u8; 36], i: usize) -> bool
+    requires { ⌜ i + 8 ≤ 36 ⌝ }
+    ensures { λ r. ⌜ r ≡ small (eightOf counts i) ⌝ }
+{
+    let low = joined(counts[i], counts[i + 1], counts[i + 2], counts[i + 3]);
+    let high = joined(counts[i + 4], counts[i + 5], counts[i + 6], counts[i + 7]);
+    (high * 4294967296 + low) & 0xF0F0F0F0F0F0F0F0 == 0
+}
+
 // Whether every count is at most 15.
 fn all_small(counts: [u8; 36]) -> bool
     ensures { λ r. ⌜ r ≡ small counts ⌝ }
 {
-    let mut i = 0;
+    if joined(counts[0], counts[1], counts[2], counts[3]) & 0xF0F0F0F0 != 0 {
+        return false;
+    }
+    let mut i = 4;
     while i < 36 {
-        if 15 < counts[i] {
+        if !eight_small(counts, i) {
             return false;
         }
-        i += 1;
+        i += 8;
     }
     true
 }
