@@ -10,13 +10,14 @@ use lib.Dec.{leb, eqb}
 use borrow.Author.Tests.{le-leb, le-ltb, lt-ltb, eq-eqb, ne-eqb, eqb-true, ltb-false, not-false}
 use Rattle.layouts.specs.Answer.{Answer, refused, nothing, gives, refusal}
 use Rattle.layouts.proofs.Answers.{none-fails}
-use Rattle.subframes.specs.Subframe.{isUsed, State, Page, Fed, wordOf, subframeOf, small, viewChecks, feedChecks, changed, put4, answerAt, used, offered, feed}
+use Rattle.subframes.specs.Subframe.{State, Page, Fed, wordOf, subframeOf, small, viewChecks, feedChecks, changed, used, offered, feed}
 use Rattle.subframes.specs.Trace.{entryAt, entriesFrom, entries, FedMany, feedEach, traceChecks, feedAll}
-use Rattle.subframes.specs.TraceInner.{pageOf, stateOf, entryChecks, answerOf, usedOf, completesOf, Offered, PageFed, endsWith}
-use Rattle.subframes.specs.declared.trace.Entry.{Entry}
-use Rattle.subframes.specs.declared.trace.PageTaken.{PageTaken}
-use Rattle.subframes.specs.declared.trace.PageTaken.the-variants.{Unused, Used, Completes}
-use Rattle.subframes.proofs.Pages.{Fine, fine, answer-15, answer-less, used-is, offered-not, offered-used, feed-refused, feed-admitted}
+use Rattle.subframes.specs.PageInner.{pageOf, stateOf, answerOf, PageFed}
+use Rattle.subframes.specs.TraceInner.{entryChecks, completesOf, endsWith}
+use Rattle.subframes.specs.declared.page.Entry.{Entry}
+use Rattle.subframes.specs.declared.page.PageTaken.{PageTaken}
+use Rattle.subframes.specs.declared.page.PageTaken.the-variants.{Unused, Used, Completes}
+use Rattle.subframes.proofs.Pages.{fine, feed-refused, feed-admitted}
 
 -- The refusals of an entry.
 module _ (n w t : ℕ) where
@@ -76,34 +77,6 @@ entry-refusal s p d l e =
     rw (eq-eqb (length (p .bytes)) 5 l, eq-eqb (length (s .hkroot)) 540 (d .h540), eq-eqb (length (s .mack)) 2160 (d .m2160), le-ltb 4095 (s .week) (d .week-fits), le-ltb 20159 (s .subframe) (d .subframe-fits), d .all-small)
     e
 
--- A change of week or subframe leaves the counts.
-pub same-subframe : {week subframe to-week to-subframe : ℕ} (counts h m : List ℕ) → week ≡ to-week → subframe ≡ to-subframe → stateOf to-week to-subframe counts h m ≡ changed (stateOf week subframe counts h m) to-week to-subframe
-unfolding changed
-same-subframe {week} {subframe} counts h m e f = rw (← e, ← f, eq-eqb week week refl, eq-eqb subframe subframe refl)
-
--- The page of a satellite.
-module _ (counts h m bytes : List ℕ) (i w : ℕ) where
-  pub not-next : (getD counts i 0 ≡ w → ⊥) → Offered counts h m bytes i w Unused counts h m
-  not-next ne =
-      let e : eqb w (getD counts i 0) ≡ false = ne-eqb w (getD counts i 0) (λ q. ne (sym q)) in
-      record { fed = λ week subframe. offered-not (stateOf week subframe counts h m) bytes i w e; is-used = sym e }
-
-  module _ {x y : List ℕ} (same : getD counts i 0 ≡ w) (ex : x ≡ set h (15 * i + w) (getD bytes 0 0)) (ey : y ≡ put4 m (4 * (15 * i + w)) bytes) where
-    next : (r : PageTaken) → ((week subframe : ℕ) → answerOf r week subframe ≡ answerAt (w + 1) week subframe) → usedOf r ≡ true → Offered counts h m bytes i w r (set counts i (w + 1)) x y
-    next r ea u =
-        let e : eqb w (getD counts i 0) ≡ true = eq-eqb w (getD counts i 0) (sym same) in
-        let place : 4 * (15 * i + w) ≡ 60 * i + 4 * w = omega arith in
-        record {
-          fed = λ week subframe. offered-used (stateOf week subframe counts h m) bytes i w e (used-is (stateOf week subframe counts h m) bytes i w ex (rw place at ey) refl (ea week subframe));
-          is-used = u ∙ sym e;
-        }
-
-    pub next-used : (w ≡ 14 → ⊥) → Offered counts h m bytes i w Used (set counts i (w + 1)) x y
-    next-used ne = next Used (λ week subframe. answer-less (w + 1) week subframe (λ q. ne (omega arith))) refl
-
-    pub next-last : w ≡ 14 → Offered counts h m bytes i w Completes (set counts i (w + 1)) x y
-    next-last e = next Completes (λ week subframe. answer-15 (w + 1) week subframe (omega arith)) refl
-
 -- What is answered where a trace ends before an entry.
 module _ (n q : ℕ) where
   pub not-first : (n ≡ 0 → ⊥) → nothing ≡ endsWith n q
@@ -118,22 +91,6 @@ pub entry-is : (trace : List ℕ) (k : ℕ) {w t : ℕ} → w ≡ getD trace (12
     → _≡_ {A = Page} (record { bytes = take 5 (drop (12 * k + 7) trace); satellite = getD trace (12 * k) 0; week = w; time = t }) (entryAt trace k)
 unfolding entryAt
 entry-is trace k e f = rw (e, f)
-
--- An admitted page.
-module _ (week subframe : ℕ) (counts h m : List ℕ) (e : Entry) (bytes : List ℕ) (z : refusal (feedChecks (stateOf week subframe counts h m) (pageOf e bytes)) ≡ 0) where
-  pub admitted-entry : Fine (stateOf week subframe counts h m) (pageOf e bytes)
-  admitted-entry = fine (stateOf week subframe counts h m) (pageOf e bytes) (sym z) refl
-
-  pub page-fed : {cs cs′ h′ m′ : List ℕ} {r : PageTaken} → ((h m : List ℕ) → stateOf (e .week) (e .time / 30) cs h m ≡ changed (stateOf week subframe counts h m) (e .week) (e .time / 30))
-      → Offered cs h m bytes (e .satellite - 1) (e .time / 2 - 15 * (e .time / 30)) r cs′ h′ m′ → PageFed (stateOf week subframe counts h m) (pageOf e bytes) r cs′ h′ m′
-  unfolding isUsed
-  page-fed {cs} {cs′} {h′} {m′} {r} er o =
-      let word : e .time / 2 - 15 * (e .time / 30) ≡ wordOf (e .time) = omega arith in
-      let o : Offered cs h m bytes (e .satellite - 1) (wordOf (e .time)) r cs′ h′ m′ = rw word at o in
-      record {
-        fed = feed-admitted (stateOf week subframe counts h m) (pageOf e bytes) (sym z) refl (er h m) (o .fed (e .week) (e .time / 30));
-        is-used = o .is-used ∙ ap (λ (s : State). eqb (wordOf (e .time)) (getD (s .counts) (e .satellite - 1) 0)) (er h m);
-      }
 
 -- A sound state stays so.
 both : (a b : Bool) → (a && b) ≡ true → (a ≡ true) × (b ≡ true)
@@ -249,10 +206,10 @@ module _ {s₀ s : State} {trace : List ℕ} {k : ℕ} (d : Left s₀ trace k s)
       turn-time = fine s (pageOf e (pagePart trace k)) number z .in-week
 
       module _ (r : PageTaken) {cs hk mk : List ℕ} (f : PageFed s (pageOf e (pagePart trace k)) r cs hk mk) where
-        pub turn-completes : {x : FedMany} {a : Answer} → completesOf r ≡ true → a ≡ answerAt 15 (e .week) (e .time / 30)
+        pub turn-completes : {x : FedMany} {a : Answer} → completesOf r ≡ true → a ≡ answerOf r (e .week) (e .time / 30)
             → x ≡ record { state = stateOf (e .week) (e .time / 30) cs hk mk; answer = a; consumed = k + 1 } → x ≡ feedEach 0 s₀ (entries trace)
         turn-completes c ea ex =
-            ex ∙ rw (ea, ← answer-15 15 (e .week) (e .time / 30) refl) (each-completes k s (pageOf e (pagePart trace k)) later (f .fed) (is-gives r c) ∙ ahead)
+            ex ∙ rw (ea, is-gives r c) (each-completes k s (pageOf e (pagePart trace k)) later (f .fed) (is-gives r c) ∙ ahead)
           where
             is-gives : (r : PageTaken) → completesOf r ≡ true → answerOf r (e .week) (e .time / 30) ≡ gives (e .week ∷ 30 * (e .time / 30) ∷ [])
             is-gives Unused c = cc

@@ -1,6 +1,6 @@
 -- Laws of the subframe collector's steps.
 -- Assumes nothing.
-use Prim.Native.Nat.{ℕ, zero, suc, _+_, _-_, _*_, _≤_, _<_}
+use Prim.Native.Nat.{ℕ, zero, suc, _+_, _-_, _*_, _/_, _≤_, _<_}
 use native.Mathlib.Numerals.{add-one}
 use native.Mathlib.Omega.{arith}
 use mathlib.Core.Path.{_≡_, refl, sym, ap, _∙_}
@@ -12,32 +12,18 @@ use lib.Dec.{leb, ltb, eqb, eqb·suc-zero}
 use borrow.Author.Tests.{le-leb, lt-leb, le-ltb, lt-ltb, eq-eqb, ne-eqb, eqb-true, ltb-false, not-false}
 use Rattle.layouts.specs.Answer.{Answer, refused, nothing, gives, _when_, refusal, shown, Copied, copied}
 use Rattle.layouts.proofs.Answers.{none-fails, stopped, went-on, copied-refused, copied-bytes}
-use Rattle.subframes.specs.Subframe.{State, Page, Fed, WordStep, wordOf, subframeOf, small, viewChecks, feedChecks, takeWord, changed, put4, answerAt, used, offered, feed, view}
-use Rattle.subframes.specs.SubframePromises.{state, TakeWord, meaning-word, sizeOf, bufferOf, meaning-shown, ViewSubframeShown, ViewSubframe}
+use Rattle.subframes.specs.Subframe.{State, Page, Fed, WordStep, wordOf, subframeOf, isUsed, small, viewChecks, feedChecks, takeWord, changed, put4, answerAt, used, offered, feed, view}
+use Rattle.subframes.specs.PageInner.{pageOf, stateOf, answerOf, usedOf, Offered, PageFed}
+use Rattle.subframes.specs.SubframePromises.{state, sizeOf, bufferOf, meaning-shown, ViewSubframeShown, ViewSubframe}
+use Rattle.subframes.specs.declared.page.Entry.{Entry}
+use Rattle.subframes.specs.declared.page.PageTaken.{PageTaken}
+use Rattle.subframes.specs.declared.page.PageTaken.the-variants.{Unused, Used, Completes}
 use Rattle.subframes.specs.declared.subframe.Message.{Message}
 use Rattle.subframes.specs.declared.subframe.Message.the-variants.{Hkroot, Mack}
 use Rattle.subframes.specs.SubframeInner.{Inside}
 use Rattle.subframes.specs.declared.subframe.CollectSubframe.{CollectSubframe}
 use Rattle.subframes.specs.declared.subframe.SubframeShown.{SubframeShown}
 use Rattle.subframes.specs.declared.subframe.SubframeShown.the-variants.{Shown, Nothing as NothingShown, Refused as NotShown}
-use Rattle.subframes.specs.declared.subframe.WordAnswer.{WordAnswer}
-use Rattle.subframes.specs.declared.subframe.WordAnswer.the-variants.{Refused as WordRefused, Unused, Used}
-use Rattle.subframes.specs.declared.subframe.WordTaken.{WordTaken}
-
--- Every count is small: the loop's three ways.
-small-at : (l : List ℕ) (i : ℕ) → i < length l → small (drop i l) ≡ (leb (getD l i 0) 15 && small (drop (i + 1) l))
-unfolding small
-small-at l i h = rw (add-one, drop-cons l i 0 h)
-
-pub small-stop : (l : List ℕ) (i : ℕ) → i < length l → 15 < getD l i 0 → small (drop i l) ≡ small l → false ≡ small l
-small-stop l i h b e = sym (rw (lt-leb _ _ b) at (small-at l i h)) ∙ e
-
-pub small-go : (l : List ℕ) (i : ℕ) → i < length l → getD l i 0 ≤ 15 → small (drop i l) ≡ small l → small (drop (i + 1) l) ≡ small l
-small-go l i h b e = sym (rw (le-leb _ _ b) at (small-at l i h)) ∙ e
-
-pub small-end : (l : List ℕ) (i : ℕ) → length l ≤ i → small (drop i l) ≡ small l → true ≡ small l
-unfolding small
-small-end l i h e = sym (ap small (drop-of-length-le l h)) ∙ e
 
 -- The refusals.
 module _ (s : State) (n : ℕ) where
@@ -147,38 +133,6 @@ module _ (n w : ℕ) where
       unfolding takeWord
       word-next e = rw (le-ltb 15 n h, le-ltb 14 w g, eq-eqb w n e)
 
--- what its answer tells
-module _ (n w : ℕ) (x : WordTaken) (e : TakeWord n w x) (h : w < 15) where
-  pub took-next : x .answer ≡ Used → (eqb w n ≡ true) × (x .next .words ≡ w + 1)
-  unfolding takeWord
-  took-next u = go (ltb 15 n) (ltb 14 w) (eqb w n) refl (ap (λ (y : WordStep). y .answer) e) (ap (λ (y : WordStep). y .next) e)
-    where
-      go : (a b c : Bool) → eqb w n ≡ c
-          → meaning-word (x .answer) ≡ cond {A = WordStep} a (record { next = 0; answer = refused 12 }) (cond b (record { next = 0; answer = refused 7 }) (cond c (record { next = n + 1; answer = gives [] }) (record { next = n; answer = nothing }))) .answer
-          → x .next .words ≡ cond {A = WordStep} a (record { next = 0; answer = refused 12 }) (cond b (record { next = 0; answer = refused 7 }) (cond c (record { next = n + 1; answer = gives [] }) (record { next = n; answer = nothing }))) .next
-          → (c ≡ true) × (x .next .words ≡ w + 1)
-      go false false true q f g = (refl, omega (arith, g, eqb-true w n q))
-      go false false false q f g = let f : gives [] ≡ nothing = rw u at f in let z : _≡_ {A = ℕ} 0 1 = cc in absurd (omega arith)
-      go false true c q f g = let f : gives [] ≡ refused 7 = rw u at f in let z : _≡_ {A = ℕ} 0 1 = cc in absurd (omega arith)
-      go true b c q f g = let f : gives [] ≡ refused 12 = rw u at f in let z : _≡_ {A = ℕ} 0 1 = cc in absurd (omega arith)
-
-  took-other : {a : WordAnswer} → x .answer ≡ a → (meaning-word a ≡ gives [] → ⊥) → eqb w n ≡ false
-  unfolding takeWord
-  took-other {a} u ne = go (eqb w n) refl
-    where
-      go : (c : Bool) → eqb w n ≡ c → c ≡ false
-      go false q = refl
-      go true q =
-          let same : w ≡ n = eqb-true w n q in
-          let next : meaning-word (x .answer) ≡ gives [] = ap (λ (y : WordStep). y .answer) e ∙ sym (ap (λ (y : WordStep). y .answer) (word-next n w (omega arith) (omega arith) same)) in
-          absurd (ne (rw u at next))
-
-  pub took-unused : x .answer ≡ Unused → eqb w n ≡ false
-  took-unused u = took-other u (λ z. let y : _≡_ {A = ℕ} 0 1 = cc in omega arith)
-
-  pub took-refused : {k : ℕ} → x .answer ≡ WordRefused k → eqb w n ≡ false
-  took-refused u = took-other u (λ z. let y : _≡_ {A = ℕ} 0 1 = cc in omega arith)
-
 -- A change of week or subframe.
 module _ (s : State) (week subframe : ℕ) where
   pub other-week-taken : (s .week ≡ week → ⊥) → _≡_ {A = State} (record { week = week; subframe = subframe; counts = replicate 36 0; hkroot = s .hkroot; mack = s .mack }) (changed s week subframe)
@@ -193,14 +147,10 @@ module _ (s : State) (week subframe : ℕ) where
   unfolding changed
   unchanged e f = rw (eq-eqb (s .week) week e, eq-eqb (s .subframe) subframe f)
 
-  pub changed-subframe : changed s week subframe .subframe ≡ subframe
-  unfolding changed
-  changed-subframe = go (eqb (s .week) week) (eqb (s .subframe) subframe) refl
-    where
-      go : (a b : Bool) → eqb (s .subframe) subframe ≡ b → cond (a && b) s (record { week = week; subframe = subframe; counts = replicate 36 0; hkroot = s .hkroot; mack = s .mack }) .subframe ≡ subframe
-      go true true e = eqb-true (s .subframe) subframe e
-      go true false e = refl
-      go false b e = refl
+-- no change leaves lent counts
+pub same-subframe : {week subframe to-week to-subframe : ℕ} (counts h m : List ℕ) → week ≡ to-week → subframe ≡ to-subframe → stateOf to-week to-subframe counts h m ≡ changed (stateOf week subframe counts h m) to-week to-subframe
+unfolding changed
+same-subframe {week} {subframe} counts h m e f = rw (← e, ← f, eq-eqb week week refl, eq-eqb subframe subframe refl)
 
 -- The page of a satellite.
 pub answer-15 : (n week subframe : ℕ) → n ≡ 15 → gives (week ∷ 30 * subframe ∷ []) ≡ answerAt n week subframe
@@ -210,6 +160,9 @@ answer-15 n week subframe e = rw (eq-eqb n 15 e)
 pub answer-less : (n week subframe : ℕ) → (n ≡ 15 → ⊥) → nothing ≡ answerAt n week subframe
 unfolding answerAt
 answer-less n week subframe ne = rw (ne-eqb n 15 ne)
+
+pub answer-completes : (week subframe : ℕ) {r : PageTaken} → r ≡ Completes → gives (week ∷ 30 * subframe ∷ []) ≡ answerOf r week subframe
+answer-completes week subframe e = rw e
 
 module _ (s : State) (bytes : List ℕ) (i w : ℕ) where
   pub used-is : {h m : List ℕ} {a : Answer} {n : ℕ} → h ≡ set (s .hkroot) (15 * i + w) (getD bytes 0 0) → m ≡ put4 (s .mack) (60 * i + 4 * w) bytes → n ≡ w + 1 → a ≡ answerAt n (s .week) (s .subframe)
@@ -221,12 +174,32 @@ module _ (s : State) (bytes : List ℕ) (i w : ℕ) where
   unfolding offered
   offered-not e = rw e
 
-  pub offered-refused : (x : WordTaken) {k : ℕ} → TakeWord (getD (s .counts) i 0) w x → w < 15 → x .answer ≡ WordRefused k → _≡_ {A = Fed} (record { state = s; answer = nothing }) (offered s bytes i w)
-  offered-refused x e h u = offered-not (took-refused (getD (s .counts) i 0) w x e h u)
-
   pub offered-used : {f : Fed} → eqb w (getD (s .counts) i 0) ≡ true → f ≡ used s bytes i w → f ≡ offered s bytes i w
   unfolding offered
   offered-used e g = let q : offered s bytes i w ≡ used s bytes i w = rw e in g ∙ sym q
+
+-- at lent counts
+module _ (counts h m bytes : List ℕ) (i w : ℕ) where
+  pub not-next : (getD counts i 0 ≡ w → ⊥) → Offered counts h m bytes i w Unused counts h m
+  not-next ne =
+      let e : eqb w (getD counts i 0) ≡ false = ne-eqb w (getD counts i 0) (λ q. ne (sym q)) in
+      record { fed = λ week subframe. offered-not (stateOf week subframe counts h m) bytes i w e; is-used = sym e }
+
+  module _ {x y : List ℕ} (same : getD counts i 0 ≡ w) (ex : x ≡ set h (15 * i + w) (getD bytes 0 0)) (ey : y ≡ put4 m (4 * (15 * i + w)) bytes) where
+    next : (r : PageTaken) → ((week subframe : ℕ) → answerOf r week subframe ≡ answerAt (w + 1) week subframe) → usedOf r ≡ true → Offered counts h m bytes i w r (set counts i (w + 1)) x y
+    next r ea u =
+        let e : eqb w (getD counts i 0) ≡ true = eq-eqb w (getD counts i 0) (sym same) in
+        let place : 4 * (15 * i + w) ≡ 60 * i + 4 * w = omega arith in
+        record {
+          fed = λ week subframe. offered-used (stateOf week subframe counts h m) bytes i w e (used-is (stateOf week subframe counts h m) bytes i w ex (rw place at ey) refl (ea week subframe));
+          is-used = u ∙ sym e;
+        }
+
+    pub next-used : (w ≡ 14 → ⊥) → Offered counts h m bytes i w Used (set counts i (w + 1)) x y
+    next-used ne = next Used (λ week subframe. answer-less (w + 1) week subframe (λ q. ne (omega arith))) refl
+
+    pub next-last : w ≡ 14 → Offered counts h m bytes i w Completes (set counts i (w + 1)) x y
+    next-last e = next Completes (λ week subframe. answer-15 (w + 1) week subframe (omega arith)) refl
 
 -- A call.
 module _ (s : State) (p : Page) {q : ℕ} (e : q ≡ refusal (feedChecks s p)) where
@@ -239,6 +212,26 @@ module _ (s : State) (p : Page) {q : ℕ} (e : q ≡ refusal (feedChecks s p)) w
   feed-admitted z et g =
       let whole : feed s p ≡ offered (changed s (p .week) (subframeOf (p .time))) (p .bytes) (p .satellite - 1) (wordOf (p .time)) = rw (← e, z) in
       g ∙ ap (λ (t : State). offered t (p .bytes) (p .satellite - 1) (wordOf (p .time))) et ∙ sym whole
+
+-- an admitted page at lent counts
+module _ (week subframe : ℕ) (counts h m : List ℕ) (e : Entry) (bytes : List ℕ) (z : refusal (feedChecks (stateOf week subframe counts h m) (pageOf e bytes)) ≡ 0) where
+  pub admitted-entry : Fine (stateOf week subframe counts h m) (pageOf e bytes)
+  admitted-entry = fine (stateOf week subframe counts h m) (pageOf e bytes) (sym z) refl
+
+  pub page-fed : {cs cs′ h′ m′ : List ℕ} {r : PageTaken} → ((h m : List ℕ) → stateOf (e .week) (e .time / 30) cs h m ≡ changed (stateOf week subframe counts h m) (e .week) (e .time / 30))
+      → Offered cs h m bytes (e .satellite - 1) (e .time / 2 - 15 * (e .time / 30)) r cs′ h′ m′ → PageFed (stateOf week subframe counts h m) (pageOf e bytes) r cs′ h′ m′
+  unfolding isUsed
+  page-fed {cs} {cs′} {h′} {m′} {r} er o =
+      let word : e .time / 2 - 15 * (e .time / 30) ≡ wordOf (e .time) = omega arith in
+      let o : Offered cs h m bytes (e .satellite - 1) (wordOf (e .time)) r cs′ h′ m′ = rw word at o in
+      record {
+        fed = feed-admitted (stateOf week subframe counts h m) (pageOf e bytes) (sym z) refl (er h m) (o .fed (e .week) (e .time / 30));
+        is-used = o .is-used ∙ ap (λ (s : State). eqb (wordOf (e .time)) (getD (s .counts) (e .satellite - 1) 0)) (er h m);
+      }
+
+pub fed-whole : {s : State} {p : Page} {r : PageTaken} {cs h m : List ℕ} {a : Answer} → PageFed s p r cs h m → a ≡ answerOf r (p .week) (subframeOf (p .time))
+    → _≡_ {A = Fed} (record { state = stateOf (p .week) (subframeOf (p .time)) cs h m; answer = a }) (feed s p)
+fed-whole {s} {p} {r} {cs} {h} {m} f e = ap (λ (a : Answer). record { state = stateOf (p .week) (subframeOf (p .time)) cs h m; answer = a }) e ∙ f .fed
 
 -- The view.
 module _ (s : State) (size n : ℕ) {q : ℕ} (e : q ≡ refusal (viewChecks s n)) where

@@ -1,3 +1,4 @@
+pub mod PageInner
 pub mod Subframe
 pub mod SubframeInner
 pub mod SubframePromises

@@ -1,55 +1,24 @@
 -- What private functions of `trace` need and do. No promise of a public function cites this file.
 -- Assumes nothing.
-use Prim.Native.Nat.{ℕ, _-_, _*_}
-use mathlib.Core.Path.{_≡_}
+use Prim.Native.Nat.{ℕ}
 use mathlib.Core.List.{List, [], _∷_}
 use mathlib.Core.Bool.{Bool, true, false, cond}
-use lib.ListN.{getD}
 use lib.Dec.{ltb, eqb}
-use Rattle.layouts.specs.Answer.{Answer, refused, nothing, gives, Check, _when_}
-use Rattle.subframes.specs.Subframe.{State, Page, Fed, subframeOf, isUsed, offered, feed}
+use Rattle.layouts.specs.Answer.{Answer, refused, nothing, Check, _when_}
+use Rattle.subframes.specs.PageInner.{stateOf}
 use Rattle.subframes.specs.Trace.{FedMany}
-use Rattle.subframes.specs.declared.trace.Entry.{Entry}
-use Rattle.subframes.specs.declared.trace.PageTaken.{PageTaken}
-use Rattle.subframes.specs.declared.trace.PageTaken.the-variants.{Unused, Used, Completes}
-
--- an entry with its page's bytes
-abbrev pub pageOf : Entry → List ℕ → Page
-pageOf e bytes = record { bytes = bytes; satellite = e .satellite; week = e .week; time = e .time }
-
--- a state whose counts are lent
-abbrev pub stateOf : ℕ → ℕ → List ℕ → List ℕ → List ℕ → State
-stateOf week subframe counts hkroot mack = record { week = week; subframe = subframe; counts = counts; hkroot = hkroot; mack = mack }
+use Rattle.subframes.specs.declared.page.PageTaken.{PageTaken}
+use Rattle.subframes.specs.declared.page.PageTaken.the-variants.{Unused, Used, Completes}
 
 -- what is refused of an entry alone
 abbrev pub entryChecks : ℕ → ℕ → ℕ → List Check
 entryChecks satellite week time = 2 when ltb satellite 1 ∷ 2 when ltb 36 satellite ∷ 3 when ltb 4095 week ∷ 4 when ltb 604799 time ∷ []
 
--- what an admitted page answers, whether it was used, and whether it was its subframe's last
-abbrev pub answerOf : PageTaken → ℕ → ℕ → Answer
-answerOf Unused week subframe = nothing
-answerOf Used week subframe = nothing
-answerOf Completes week subframe = gives (week ∷ 30 * subframe ∷ [])
-
-abbrev pub usedOf : PageTaken → Bool
-usedOf Unused = false
-usedOf Used = true
-usedOf Completes = true
-
+-- whether an admitted page was its subframe's last
 abbrev pub completesOf : PageTaken → Bool
 completesOf Unused = false
 completesOf Used = false
 completesOf Completes = true
-
--- a page at lent counts, in any week and subframe
-pub record Offered (counts hkroot mack bytes : List ℕ) (i word : ℕ) (r : PageTaken) (counts′ hkroot′ mack′ : List ℕ) : Type 0 where
-  pub fed : (week subframe : ℕ) → _≡_ {A = Fed} (record { state = stateOf week subframe counts′ hkroot′ mack′; answer = answerOf r week subframe }) (offered (stateOf week subframe counts hkroot mack) bytes i word)
-  pub is-used : usedOf r ≡ eqb word (getD counts i 0)
-
--- an admitted page at lent counts: what `feed` makes of it, and whether it was used
-pub record PageFed (s : State) (p : Page) (r : PageTaken) (counts hkroot mack : List ℕ) : Type 0 where
-  pub fed : _≡_ {A = Fed} (record { state = stateOf (p .week) (subframeOf (p .time)) counts hkroot mack; answer = answerOf r (p .week) (subframeOf (p .time)) }) (feed s p)
-  pub is-used : usedOf r ≡ isUsed s p
 
 -- what is answered where an entry that would be refused ends a trace
 abbrev pub endsWith : ℕ → ℕ → Answer

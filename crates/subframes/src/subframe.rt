@@ -1,13 +1,17 @@
 // A subframe from its pages.
+use crate::page;
+use crate::page::Entry;
+use crate::page::PageTaken;
 ghost use mathlib.Core.Path.{_≡_};
 ghost use mathlib.Core.List.{List};
 ghost use mathlib.Core.Bool.{Bool, true, false};
 ghost use Prim.Native.Nat.{ℕ, _+_, _*_, _≤_, _<_};
-ghost use lib.ListN.{length, getD, set, take, drop};
+ghost use lib.ListN.{length, take, drop};
 ghost use Rattle.layouts.specs.Answer.{shown as shownOf, refusal as refusalOf};
-ghost use Rattle.subframes.specs.Subframe.{Page, Fed, small, viewChecks, feedChecks, changed, put4, answerAt, used, offered};
-ghost use Rattle.subframes.specs.SubframeInner.{Inside};
-ghost use Rattle.subframes.specs.SubframePromises.{state, outcome, meaning-subframe, meaning-shown, NewSubframe, TakeWord, FeedSubframe, sizeOf, ViewSubframeShown, ViewSubframe, HkrootMessageRead};
+ghost use Rattle.subframes.specs.Subframe.{Page, small, viewChecks, feedChecks};
+ghost use Rattle.subframes.specs.PageInner.{answerOf};
+ghost use Rattle.subframes.specs.SubframeInner.{Inside, Joined, eightOf};
+ghost use Rattle.subframes.specs.SubframePromises.{state, meaning-subframe, meaning-shown, NewSubframe, TakeWord, FeedSubframe, sizeOf, ViewSubframeShown, ViewSubframe, HkrootMessageRead};
 
 // How many words of a satellite's subframe have come, and to which subframe they belong; the bytes are lent by the caller.
 pub struct CollectSubframe {
@@ -103,16 +107,36 @@ pub fn new() -> CollectSubframe
     }
 }
 
+// Four counts as one number. By numbers of eight counts and not one by one, `all_small` reads the record as it was written: a load across two stores waits for both.
+fn joined(a: u8, b: u8, c: u8, d: u8) -> u64
+    ensures { λ r. ⌜ Joined a b c d r ⌝ }
+{
+    ((d as u64 * 256 + c as u64) * 256 + b as u64) * 256 + a as u64
+}
+
+// Whether eight counts, from the one at `i` on, are at most 15.
+fn eight_small(counts: [u8; 36], i: usize) -> bool
+    requires { ⌜ i + 8 ≤ 36 ⌝ }
+    ensures { λ r. ⌜ r ≡ small (eightOf counts i) ⌝ }
+{
+    let low = joined(counts[i], counts[i + 1], counts[i + 2], counts[i + 3]);
+    let high = joined(counts[i + 4], counts[i + 5], counts[i + 6], counts[i + 7]);
+    (high * 4294967296 + low) & 0xF0F0F0F0F0F0F0F0 == 0
+}
+
 // Whether every count is at most 15.
 fn all_small(counts: [u8; 36]) -> bool
     ensures { λ r. ⌜ r ≡ small counts ⌝ }
 {
-    let mut i = 0;
+    if joined(counts[0], counts[1], counts[2], counts[3]) & 0xF0F0F0F0 != 0 {
+        return false;
+    }
+    let mut i = 4;
     while i < 36 {
-        if 15 < counts[i] {
+        if !eight_small(counts, i) {
             return false;
         }
-        i += 1;
+        i += 8;
     }
     true
 }
@@ -179,107 +203,17 @@ fn refuses(
     0
 }
 
-// The collector at a page of that week and subframe: all counts 0 where either differs.
-pub(crate) fn change(collector: CollectSubframe, week: u16, subframe: u16) -> CollectSubframe
-    ensures { λ r. ⌜ ((h m : List ℕ) → state r h m ≡ changed (state collector h m) week subframe) ⌝ }
+// The answer to an admitted page of that week and subframe.
+pub(crate) fn answer_of(taken: PageTaken, week: u16, subframe: u16) -> SubframeAnswer
+    ensures { λ r. ⌜ meaning-subframe r ≡ answerOf taken week subframe ⌝ }
 {
-    if collector.week != week {
-        return CollectSubframe {
-            week,
-            subframe,
-            counts: [0; 36],
-        };
-    }
-    if collector.subframe != subframe {
-        return CollectSubframe {
-            week,
-            subframe,
-            counts: [0; 36],
-        };
-    }
-    collector
-}
-
-// A page's first byte goes to one place, the other four to the other. All are read before any is written, so that the compiler can move the four as one number.
-pub(crate) fn place(hkroot: &mut [u8], mack: &mut [u8], page: &[u8], h: usize, m: usize)
-    requires { ⌜ (h < length (now hkroot)) × (m + 3 < length (now mack)) × (length (now page) ≡ 5) ⌝ }
-    ensures { λ r. ⌜ (now (hkroot .exit) ≡ set (now (hkroot .entry)) h (getD (now (page .entry)) 0 0)) × (now (mack .exit) ≡ put4 (now (mack .entry)) m (now (page .entry))) ⌝ }
-{
-    let a = page[1];
-    let b = page[2];
-    let c = page[3];
-    let d = page[4];
-    hkroot[h] = page[0];
-    mack[m] = a;
-    mack[m + 1] = b;
-    mack[m + 2] = c;
-    mack[m + 3] = d;
-}
-
-// The answer where a satellite's count has become `count`.
-pub(crate) fn answer_at(count: u8, week: u16, subframe: u16) -> SubframeAnswer
-    requires { ⌜ subframe ≤ 20159 ⌝ }
-    ensures { λ r. ⌜ meaning-subframe r ≡ answerAt count week subframe ⌝ }
-{
-    if count != 15 {
-        return SubframeAnswer::Nothing;
-    }
-    let n = subframe as u32;
-    SubframeAnswer::Complete { week, time: 30 * n }
-}
-
-// The page has the satellite's next word: its bytes are kept, and the count rises to `next`.
-fn use_page(
-    collector: CollectSubframe,
-    hkroot: &mut [u8],
-    mack: &mut [u8],
-    page: &[u8],
-    i: usize,
-    word: u8,
-    next: u8,
-) -> SubframeFed
-    requires { ⌜ (length (now hkroot) ≡ 540) × (length (now mack) ≡ 2160) × (length (now page) ≡ 5) ⌝ }
-    requires { ⌜ (i < 36) × (word < 15) × (next ≡ word + 1) × (collector .subframe ≤ 20159) ⌝ }
-    ensures { λ r. ⌜ outcome r (now (hkroot .exit)) (now (mack .exit)) ≡ used (state collector (now (hkroot .entry)) (now (mack .entry))) (now (page .entry)) i word ⌝ }
-{
-    let w = word as usize;
-    place(hkroot, mack, page, 15 * i + w, 60 * i + 4 * w);
-    let answer = answer_at(next, collector.week, collector.subframe);
-    let mut after = collector;
-    after.counts[i] = next;
-    SubframeFed {
-        collector: after,
-        answer,
-    }
-}
-
-// The page of the satellite at `i`, at a collector of its week and subframe.
-fn offer(
-    collector: CollectSubframe,
-    hkroot: &mut [u8],
-    mack: &mut [u8],
-    page: &[u8],
-    i: usize,
-    word: u8,
-) -> SubframeFed
-    requires { ⌜ (length (now hkroot) ≡ 540) × (length (now mack) ≡ 2160) × (length (now page) ≡ 5) ⌝ }
-    requires { ⌜ (i < 36) × (word < 15) × (collector .subframe ≤ 20159) ⌝ }
-    ensures { λ r. ⌜ outcome r (now (hkroot .exit)) (now (mack .exit)) ≡ offered (state collector (now (hkroot .entry)) (now (mack .entry))) (now (page .entry)) i word ⌝ }
-{
-    let taken = WordCount {
-        words: collector.counts[i],
-    }.take(word);
-    let answer = taken.answer;
-    match answer {
-        WordAnswer::Refused(_) => SubframeFed {
-            collector,
-            answer: SubframeAnswer::Nothing,
-        },
-        WordAnswer::Unused => SubframeFed {
-            collector,
-            answer: SubframeAnswer::Nothing,
-        },
-        WordAnswer::Used => use_page(collector, hkroot, mack, page, i, word, taken.next.words),
+    match taken {
+        PageTaken::Unused => SubframeAnswer::Nothing,
+        PageTaken::Used => SubframeAnswer::Nothing,
+        PageTaken::Completes => {
+            let n = subframe as u32;
+            SubframeAnswer::Complete { week, time: 30 * n }
+        }
     }
 }
 
@@ -302,15 +236,30 @@ pub fn feed(
             answer: SubframeAnswer::Refused(refusal),
         };
     }
-    let next = change(collector, week, (time / 30) as u16);
-    offer(
-        next,
+    let mut counts = collector.counts;
+    let entry = Entry {
+        satellite,
+        week,
+        time,
+    };
+    let taken = page::take_page(
+        &mut counts,
         hkroot,
         mack,
+        collector.week,
+        collector.subframe,
         page,
-        (satellite - 1) as usize,
-        (time / 2 % 15) as u8,
-    )
+        entry,
+    );
+    let subframe = (time / 30) as u16;
+    SubframeFed {
+        collector: CollectSubframe {
+            week,
+            subframe,
+            counts,
+        },
+        answer: answer_of(taken, week, subframe),
+    }
 }
 
 // How many bytes a message has.

@@ -1,4 +1,7 @@
 // A trace of pages in memory, fed to the subframe collector; docs/FORMATS.md has its layout. The record is checked once, then its counts are lent.
+use crate::page;
+use crate::page::Entry;
+use crate::page::PageTaken;
 use crate::subframe;
 use crate::subframe::CollectSubframe;
 use crate::subframe::SubframeAnswer;
@@ -7,30 +10,17 @@ ghost use mathlib.Core.List.{List};
 ghost use Prim.Native.Nat.{ℕ, _+_, _*_, _≤_, _<_};
 ghost use lib.ListN.{length, take, drop};
 ghost use Rattle.layouts.specs.Answer.{refusal as refusalOf};
-ghost use Rattle.subframes.specs.Subframe.{feedChecks, viewChecks, changed};
+ghost use Rattle.subframes.specs.Subframe.{viewChecks};
 ghost use Rattle.subframes.specs.SubframePromises.{state, meaning-subframe};
 ghost use Rattle.subframes.specs.Trace.{entryAt, entries as entriesOf, feedEach, traceChecks};
 ghost use Rattle.subframes.specs.TracePromises.{outcome-all, FeedAll};
-ghost use Rattle.subframes.specs.TraceInner.{pageOf, stateOf, entryChecks, completesOf, Offered, PageFed, endsWith, fedOf};
+ghost use Rattle.subframes.specs.TraceInner.{entryChecks, completesOf, endsWith, fedOf};
+ghost use Rattle.subframes.specs.PageInner.{pageOf};
 
 pub struct TraceFed {
     pub collector: CollectSubframe,
     pub answer: SubframeAnswer,
     pub consumed: usize,
-}
-
-// Whose page an entry has, and when it came.
-pub(crate) struct Entry {
-    pub satellite: u8,
-    pub week: u16,
-    pub time: u32,
-}
-
-// What became of an admitted page: not used, used, or used as the last of its subframe.
-pub(crate) enum PageTaken {
-    Unused,
-    Used,
-    Completes,
 }
 
 // Numbers of two and of four bytes, high byte first.
@@ -76,72 +66,6 @@ pub(crate) fn entry_refuses(entry: Entry) -> u8
         return 4;
     }
     0
-}
-
-// The counts at a page of week `to_week` and subframe `to_subframe`: all 0 where either is another one.
-fn restart(counts: &mut [u8; 36], week: u16, subframe: u16, to_week: u16, to_subframe: u16)
-    ensures { λ r. ⌜ ((h m : List ℕ) → stateOf «to_week» «to_subframe» (now (counts .exit)) h m ≡ changed (stateOf week subframe (now (counts .entry)) h m) «to_week» «to_subframe») ⌝ }
-{
-    if week != to_week {
-        *counts = [0; 36];
-        return;
-    }
-    if subframe != to_subframe {
-        *counts = [0; 36];
-        return;
-    }
-}
-
-// The page of the satellite at `i`: used where it has the next word.
-fn offer_at(
-    counts: &mut [u8; 36],
-    hkroot: &mut [u8],
-    mack: &mut [u8],
-    page: &[u8],
-    i: usize,
-    word: u8,
-) -> PageTaken
-    requires { ⌜ (length (now hkroot) ≡ 540) × (length (now mack) ≡ 2160) × (length (now page) ≡ 5) × (i < 36) × (word < 15) ⌝ }
-    ensures { λ r. ⌜ Offered (now (counts .entry)) (now (hkroot .entry)) (now (mack .entry)) (now (page .entry)) i word r (now (counts .exit)) (now (hkroot .exit)) (now (mack .exit)) ⌝ }
-{
-    if counts[i] != word {
-        return PageTaken::Unused;
-    }
-    let w = word as usize;
-    let at = 15 * i + w;
-    subframe::place(hkroot, mack, page, at, 4 * at);
-    counts[i] = word + 1;
-    if word != 14 {
-        return PageTaken::Used;
-    }
-    PageTaken::Completes
-}
-
-// Takes an admitted page, where the lent counts are of week `week` and subframe `subframe`. They are then of the page's own.
-pub(crate) fn take_page(
-    counts: &mut [u8; 36],
-    hkroot: &mut [u8],
-    mack: &mut [u8],
-    week: u16,
-    subframe: u16,
-    page: &[u8],
-    entry: Entry,
-) -> PageTaken
-    requires { ⌜ refusalOf (feedChecks (stateOf week subframe (now counts) (now hkroot) (now mack)) (pageOf entry (now page))) ≡ 0 ⌝ }
-    ensures { λ r. ⌜ PageFed (stateOf week subframe (now (counts .entry)) (now (hkroot .entry)) (now (mack .entry))) (pageOf entry (now (page .entry))) r (now (counts .exit)) (now (hkroot .exit)) (now (mack .exit)) ⌝ }
-{
-    // the word is (time / 2) mod 15, without a second division
-    let time = entry.time;
-    let number = time / 30;
-    restart(counts, week, subframe, entry.week, number as u16);
-    offer_at(
-        counts,
-        hkroot,
-        mack,
-        page,
-        (entry.satellite - 1) as usize,
-        (time / 2 - 15 * number) as u8,
-    )
 }
 
 // Whether the page was its subframe's last.
@@ -210,12 +134,12 @@ fn feed_entries(
         let a = 12 * n + 7;
         let e = 12 * n + 12;
         let page = &trace[a..e];
-        let taken = take_page(&mut counts, hkroot, mack, week, subframe, page, entry);
+        let taken = page::take_page(&mut counts, hkroot, mack, week, subframe, page, entry);
         week = entry.week;
         subframe = (entry.time / 30) as u16;
         n += 1;
         if completes(taken) {
-            let answer = subframe::answer_at(15, week, subframe);
+            let answer = subframe::answer_of(taken, week, subframe);
             return fed(week, subframe, counts, answer, n);
         }
     }

@@ -1,29 +1,47 @@
 -- `subframe::all_small`: before each turn what is left is small exactly if all is.
 -- Assumes nothing.
-use Rattle.subframes.proofs.Pages.{small-stop, small-go, small-end}
+use Rattle.subframes.proofs.Counts.{first-stop, first-go, small-stop, small-go, small-end}
 use lib.ListN.{length, drop}
 use native.Mathlib.Omega.{arith}
 use borrow.Author.Needs.{needs}
-use Prim.Native.Nat.{_≤_, _-_}
+use Prim.Native.Nat.{_≤_, _-_, _%_}
 use mathlib.Core.Path.{_≡_, refl}
 use Rattle.subframes.specs.Subframe.{small}
 use Rattle.subframes.proofs.subframe.all_small.Statement.{statement}
 use Rattle.subframes.proofs.subframe.all_small.Tie as tie
 
 abbrev Inv-loop : tie.InvT-loop
-Inv-loop counts i₀ i = (i ≤ 36) × (small (drop i counts) ≡ small counts)
+Inv-loop counts i₀ i = (i ≤ 36) × (i % 8 ≡ 4) × (small (drop i counts) ≡ small counts)
 
 abbrev μ-loop : tie.MeasureT-loop
 μ-loop counts i₀ i = 36 - i
 
-loop-holds : tie.Need-loop-holds Inv-loop μ-loop
-loop-holds c = (omega arith, refl)
+array-read-joined : tie.Need-array-read-joined Inv-loop μ-loop
+array-read-joined c = search needs
 
-array-read-if1 : tie.Need-array-read-if1 Inv-loop μ-loop
-array-read-if1 c = search needs
+array-read-joined-2 : tie.Need-array-read-joined-2 Inv-loop μ-loop
+array-read-joined-2 c = search needs
+
+array-read-joined-3 : tie.Need-array-read-joined-3 Inv-loop μ-loop
+array-read-joined-3 c = search needs
+
+array-read-joined-4 : tie.Need-array-read-joined-4 Inv-loop μ-loop
+array-read-joined-4 c = search needs
+
+joined-requires : tie.Need-joined-requires Inv-loop μ-loop
+joined-requires c κs = search needs
 
 returns : tie.Need-returns Inv-loop μ-loop
-returns c = let h : length (c .before .before .before .args .t1) ≡ 36 = search needs in small-stop _ (c .before .before .loop .i) (omega arith) (c .if1 .taken) (c .before .before .loop .inv .1)
+returns c = let l = c .before .before .args .t1 in let h : length l ≡ 36 = search needs in first-stop l (omega arith) (c .before .joined .ensures) (c .if1 .taken)
+
+loop-holds : tie.Need-loop-holds Inv-loop μ-loop
+loop-holds c = let l = c .before .before .args .t1 in let h : length l ≡ 36 = search needs in (omega arith, refl, first-go l (omega arith) (c .before .joined .ensures) (c .if1 .left))
+
+eight-small-requires : tie.Need-eight-small-requires Inv-loop μ-loop
+eight-small-requires c κs = omega arith
+
+returns-2 : tie.Need-returns-2 Inv-loop μ-loop
+returns-2 c = let l = c .before .before .before .before .before .before .args .t1 in let h : length l ≡ 36 = search needs in small-stop l (c .before .before .before .loop .i) (omega arith) (c .before .eight-small .ensures) (c .before .before .before .loop .inv .2) (c .if2 .taken)
 
 add-i : tie.Need-add-i Inv-loop μ-loop
 add-i c = omega arith
@@ -32,10 +50,10 @@ loop-less : tie.Need-loop-less Inv-loop μ-loop
 loop-less c = omega arith
 
 loop-again : tie.Need-loop-again Inv-loop μ-loop
-loop-again c = let h : length (c .before .before .before .args .t1) ≡ 36 = search needs in (omega arith, small-go _ (c .before .before .loop .i) (omega arith) (c .if1 .left) (c .before .before .loop .inv .1))
+loop-again c = let l = c .before .before .before .before .before .before .args .t1 in let h : length l ≡ 36 = search needs in (omega arith, omega arith, small-go l (c .before .before .before .loop .i) (omega arith) (c .before .eight-small .ensures) (c .before .before .before .loop .inv .2) (c .if2 .left))
 
-returns-2 : tie.Need-returns-2 Inv-loop μ-loop
-returns-2 c = let h : length (c .before .before .args .t1) ≡ 36 = search needs in small-end _ (c .before .loop .i) (omega arith) (c .before .loop .inv .1)
+returns-3 : tie.Need-returns-3 Inv-loop μ-loop
+returns-3 c = let l = c .before .before .before .before .args .t1 in let h : length l ≡ 36 = search needs in small-end l (c .before .loop .i) (omega arith) (c .before .loop .inv .2)
 
 pub all-small-spec : {M : Type 1} → statement M
 all-small-spec =
@@ -43,10 +61,16 @@ all-small-spec =
     (tie.spec
     Inv-loop
     μ-loop
-    loop-holds
-    array-read-if1
+    array-read-joined
+    array-read-joined-2
+    array-read-joined-3
+    array-read-joined-4
+    joined-requires
     returns
+    loop-holds
+    eight-small-requires
+    returns-2
     add-i
     loop-less
     loop-again
-    returns-2)
+    returns-3)

@@ -4,7 +4,7 @@ use Prim.Native.Nat.{_-_}
 use mathlib.Core.Path.{sym, _∙_}
 use native.Mathlib.Omega.{arith}
 use borrow.Author.Needs.{needs}
-use Rattle.subframes.specs.TraceInner.{stateOf}
+use Rattle.subframes.specs.PageInner.{stateOf}
 use Rattle.subframes.specs.SubframePromises.{state}
 use Rattle.subframes.proofs.Entries.{Left, turn-first, turn-none, turn-ends, turn-asks, turn-time, turn-sound, turn-completes, turn-goes-on}
 use Rattle.subframes.proofs.trace.feed_entries.Statement.{statement}
@@ -73,8 +73,8 @@ add-n c = omega arith
 completes-requires : tie.Need-completes-requires Inv-loop μ-loop
 completes-requires c κs = search needs
 
-answer-at-requires : tie.Need-answer-at-requires Inv-loop μ-loop
-answer-at-requires c κs = let d = c .before .before .before .before .before .before .before .before .before .before .before .before .before .before .before .before .loop .inv in let e = c .before .before .before .before .before .before .before .before .before .before .before .before .before .before .entry-at .result in let h = c .before .before .before .before .before .before .before .before .before .before .before .before .before .before .before .loop-test .taken in let pe = c .before .before .before .before .before .before .before .before .before .before .before .before .before .before .entry-at .ensures in let eq = c .before .before .before .before .before .before .before .before .before .before .before .before .before .entry-refuses .ensures in let left = c .before .before .before .before .before .before .before .before .before .before .before .before .if1 .left in let t = turn-time d e h pe eq left in omega (arith, t)
+answer-of-requires : tie.Need-answer-of-requires Inv-loop μ-loop
+answer-of-requires c κs = search needs
 
 fed-requires-2 : tie.Need-fed-requires-2 Inv-loop μ-loop
 fed-requires-2 c κs = search needs
@@ -86,7 +86,7 @@ same-length-4 : tie.Need-same-length-4 Inv-loop μ-loop
 same-length-4 c = let d = c .before .before .before .before .before .before .before .before .before .before .before .before .before .before .before .before .before .before .loop .inv in let e = c .before .before .before .before .before .before .before .before .before .before .before .before .before .before .before .before .entry-at .result in let h = c .before .before .before .before .before .before .before .before .before .before .before .before .before .before .before .before .before .loop-test .taken in let pe = c .before .before .before .before .before .before .before .before .before .before .before .before .before .before .before .before .entry-at .ensures in let eq = c .before .before .before .before .before .before .before .before .before .before .before .before .before .before .before .entry-refuses .ensures in let left = c .before .before .before .before .before .before .before .before .before .before .before .before .before .before .if1 .left in let take = c .before .before .before .before .before .before .before .before .before .take-page in let t = turn-sound d e h pe eq left (take .result) (take .ensures) in omega (arith, t .m2160, d .first .m2160)
 
 returns-2 : tie.Need-returns-2 Inv-loop μ-loop
-returns-2 c = let d = c .before .before .before .before .before .before .before .before .before .before .before .before .before .before .before .before .before .before .loop .inv in let e = c .before .before .before .before .before .before .before .before .before .before .before .before .before .before .before .before .entry-at .result in let h = c .before .before .before .before .before .before .before .before .before .before .before .before .before .before .before .before .before .loop-test .taken in let pe = c .before .before .before .before .before .before .before .before .before .before .before .before .before .before .before .before .entry-at .ensures in let eq = c .before .before .before .before .before .before .before .before .before .before .before .before .before .before .before .entry-refuses .ensures in let left = c .before .before .before .before .before .before .before .before .before .before .before .before .before .before .if1 .left in let take = c .before .before .before .before .before .before .before .before .before .take-page in let done = c .before .before .before .completes .ensures in let ans = c .before .answer-at .ensures in turn-completes d e h pe eq left (take .result) (take .ensures) (sym done ∙ c .before .before .if2 .taken) ans (c .fed2 .ensures _ _)
+returns-2 c = let d = c .before .before .before .before .before .before .before .before .before .before .before .before .before .before .before .before .before .before .loop .inv in let e = c .before .before .before .before .before .before .before .before .before .before .before .before .before .before .before .before .entry-at .result in let h = c .before .before .before .before .before .before .before .before .before .before .before .before .before .before .before .before .before .loop-test .taken in let pe = c .before .before .before .before .before .before .before .before .before .before .before .before .before .before .before .before .entry-at .ensures in let eq = c .before .before .before .before .before .before .before .before .before .before .before .before .before .before .before .entry-refuses .ensures in let left = c .before .before .before .before .before .before .before .before .before .before .before .before .before .before .if1 .left in let take = c .before .before .before .before .before .before .before .before .before .take-page in let done = c .before .before .before .completes .ensures in let ans = c .before .answer-of .ensures in turn-completes d e h pe eq left (take .result) (take .ensures) (sym done ∙ c .before .before .if2 .taken) ans (c .fed2 .ensures _ _)
 
 loop-less : tie.Need-loop-less Inv-loop μ-loop
 loop-less c = omega arith
@@ -131,7 +131,7 @@ feed-entries-spec =
     cast-subframe
     add-n
     completes-requires
-    answer-at-requires
+    answer-of-requires
     fed-requires-2
     same-length-3
     same-length-4

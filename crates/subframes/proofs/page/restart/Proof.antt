@@ -1,10 +1,9 @@
--- `trace::restart`: each case of a change.
+-- `page::restart`: each case of a change.
 -- Assumes nothing.
-use Rattle.subframes.proofs.Entries.{same-subframe}
-use Rattle.subframes.proofs.Pages.{other-week-taken, other-subframe-taken}
-use Rattle.subframes.specs.TraceInner.{stateOf}
-use Rattle.subframes.proofs.trace.restart.Statement.{statement}
-use Rattle.subframes.proofs.trace.restart.Tie as tie
+use Rattle.subframes.proofs.Pages.{other-week-taken, other-subframe-taken, same-subframe}
+use Rattle.subframes.specs.PageInner.{stateOf}
+use Rattle.subframes.proofs.page.restart.Statement.{statement}
+use Rattle.subframes.proofs.page.restart.Tie as tie
 
 returns : tie.Need-returns
 returns c = let a = c .before .before .args in λ h m. other-week-taken (stateOf (a .week) (a .subframe) (a .counts .now) h m) (a .to-week) (a .to-subframe) (c .before .if1 .taken)

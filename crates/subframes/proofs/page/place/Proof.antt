@@ -1,10 +1,10 @@
--- `subframe::place`: five writes.
+-- `page::place`: five writes.
 -- Assumes nothing.
 use lib.ListN.{length-set}
 use native.Mathlib.Omega.{arith}
 use borrow.Author.Needs.{needs}
-use Rattle.subframes.proofs.subframe.place.Statement.{statement}
-use Rattle.subframes.proofs.subframe.place.Tie as tie
+use Rattle.subframes.proofs.page.place.Statement.{statement}
+use Rattle.subframes.proofs.page.place.Tie as tie
 
 shared-slice-read-a : tie.Need-shared-slice-read-a
 shared-slice-read-a c = search needs

@@ -1,9 +1,9 @@
--- `trace::offer_at`: each case of the definition.
+-- `page::offer_at`: each case of the definition.
 -- Assumes nothing.
-use Rattle.subframes.proofs.Entries.{not-next, next-used, next-last}
+use Rattle.subframes.proofs.Pages.{not-next, next-used, next-last}
 use borrow.Author.Needs.{needs}
-use Rattle.subframes.proofs.trace.offer_at.Statement.{statement}
-use Rattle.subframes.proofs.trace.offer_at.Tie as tie
+use Rattle.subframes.proofs.page.offer_at.Statement.{statement}
+use Rattle.subframes.proofs.page.offer_at.Tie as tie
 
 element-copy-out-if1 : tie.Need-element-copy-out-if1
 element-copy-out-if1 c = search needs

@@ -1,10 +1,10 @@
--- `trace::take_page`: the counts at its week and subframe, then the page of its satellite.
+-- `page::take_page`: the counts at its week and subframe, then the page of its satellite.
 -- Assumes nothing.
-use Rattle.subframes.proofs.Entries.{admitted-entry, page-fed}
+use Rattle.subframes.proofs.Pages.{admitted-entry, page-fed}
 use native.Mathlib.Omega.{arith}
 use borrow.Author.Needs.{needs}
-use Rattle.subframes.proofs.trace.take_page.Statement.{statement}
-use Rattle.subframes.proofs.trace.take_page.Tie as tie
+use Rattle.subframes.proofs.page.take_page.Statement.{statement}
+use Rattle.subframes.proofs.page.take_page.Tie as tie
 
 cast-restart : tie.Need-cast-restart
 cast-restart c = let a = c .before .before .before .before .args in let f = admitted-entry (a .week) (a .subframe) (a .counts .now) (a .hkroot .now) (a .mack .now) (a .entry) (a .page .now) (c .before .before .before .before .pre) in omega (arith, f .in-week)

@@ -1,0 +1,104 @@
+// An admitted page at counts that are lent: one step of `feed` and of `feed_all`.
+ghost use mathlib.Core.Path.{_≡_};
+ghost use mathlib.Core.List.{List};
+ghost use Prim.Native.Nat.{ℕ, _+_, _<_};
+ghost use lib.ListN.{length, getD, set};
+ghost use Rattle.layouts.specs.Answer.{refusal as refusalOf};
+ghost use Rattle.subframes.specs.Subframe.{feedChecks, changed, put4};
+ghost use Rattle.subframes.specs.PageInner.{pageOf, stateOf, Offered, PageFed};
+
+// Whose page it is, and when it came.
+pub(crate) struct Entry {
+    pub satellite: u8,
+    pub week: u16,
+    pub time: u32,
+}
+
+// What became of an admitted page: not used, used, or used as the last of its subframe.
+pub(crate) enum PageTaken {
+    Unused,
+    Used,
+    Completes,
+}
+
+// The counts at a page of week `to_week` and subframe `to_subframe`: all 0 where either is another one.
+fn restart(counts: &mut [u8; 36], week: u16, subframe: u16, to_week: u16, to_subframe: u16)
+    ensures { λ r. ⌜ ((h m : List ℕ) → stateOf «to_week» «to_subframe» (now (counts .exit)) h m ≡ changed (stateOf week subframe (now (counts .entry)) h m) «to_week» «to_subframe») ⌝ }
+{
+    if week != to_week {
+        *counts = [0; 36];
+        return;
+    }
+    if subframe != to_subframe {
+        *counts = [0; 36];
+        return;
+    }
+}
+
+// A page's first byte goes to one place, the other four to the other. All are read before any is written, so that the compiler can move the four as one number.
+fn place(hkroot: &mut [u8], mack: &mut [u8], page: &[u8], h: usize, m: usize)
+    requires { ⌜ (h < length (now hkroot)) × (m + 3 < length (now mack)) × (length (now page) ≡ 5) ⌝ }
+    ensures { λ r. ⌜ (now (hkroot .exit) ≡ set (now (hkroot .entry)) h (getD (now (page .entry)) 0 0)) × (now (mack .exit) ≡ put4 (now (mack .entry)) m (now (page .entry))) ⌝ }
+{
+    let a = page[1];
+    let b = page[2];
+    let c = page[3];
+    let d = page[4];
+    hkroot[h] = page[0];
+    mack[m] = a;
+    mack[m + 1] = b;
+    mack[m + 2] = c;
+    mack[m + 3] = d;
+}
+
+// The page of the satellite at `i`: used where it has the next word.
+fn offer_at(
+    counts: &mut [u8; 36],
+    hkroot: &mut [u8],
+    mack: &mut [u8],
+    page: &[u8],
+    i: usize,
+    word: u8,
+) -> PageTaken
+    requires { ⌜ (length (now hkroot) ≡ 540) × (length (now mack) ≡ 2160) × (length (now page) ≡ 5) × (i < 36) × (word < 15) ⌝ }
+    ensures { λ r. ⌜ Offered (now (counts .entry)) (now (hkroot .entry)) (now (mack .entry)) (now (page .entry)) i word r (now (counts .exit)) (now (hkroot .exit)) (now (mack .exit)) ⌝ }
+{
+    if counts[i] != word {
+        return PageTaken::Unused;
+    }
+    let w = word as usize;
+    let at = 15 * i + w;
+    place(hkroot, mack, page, at, 4 * at);
+    counts[i] = word + 1;
+    if word != 14 {
+        return PageTaken::Used;
+    }
+    PageTaken::Completes
+}
+
+// Takes an admitted page, where the lent counts are of week `week` and subframe `subframe`. They are then of the page's own.
+pub(crate) fn take_page(
+    counts: &mut [u8; 36],
+    hkroot: &mut [u8],
+    mack: &mut [u8],
+    week: u16,
+    subframe: u16,
+    page: &[u8],
+    entry: Entry,
+) -> PageTaken
+    requires { ⌜ refusalOf (feedChecks (stateOf week subframe (now counts) (now hkroot) (now mack)) (pageOf entry (now page))) ≡ 0 ⌝ }
+    ensures { λ r. ⌜ PageFed (stateOf week subframe (now (counts .entry)) (now (hkroot .entry)) (now (mack .entry))) (pageOf entry (now (page .entry))) r (now (counts .exit)) (now (hkroot .exit)) (now (mack .exit)) ⌝ }
+{
+    // the word is (time / 2) mod 15, without a second division
+    let time = entry.time;
+    let number = time / 30;
+    restart(counts, week, subframe, entry.week, number as u16);
+    offer_at(
+        counts,
+        hkroot,
+        mack,
+        page,
+        (entry.satellite - 1) as usize,
+        (time / 2 - 15 * number) as u8,
+    )
+}
