@@ -14,7 +14,7 @@ use Rattle.layouts.specs.Answer.{Answer, refused, nothing, gives, _when_, refus
 use Rattle.layouts.proofs.Answers.{none-fails, stopped, went-on, copied-refused, copied-bytes}
 use Rattle.subframes.specs.Subframe.{State, Page, Fed, WordStep, wordOf, subframeOf, isUsed, small, viewChecks, feedChecks, takeWord, changed, put4, answerAt, used, offered, feed, view}
 use Rattle.subframes.specs.PageInner.{pageOf, stateOf, answerOf, usedOf, Offered, PageFed}
-use Rattle.subframes.specs.SubframePromises.{state, sizeOf, bufferOf, meaning-shown, ViewSubframeShown, ViewSubframe}
+use Rattle.subframes.specs.SubframePromises.{state, TakeWord, meaning-word, sizeOf, bufferOf, meaning-shown, ViewSubframeShown, ViewSubframe}
 use Rattle.subframes.specs.declared.page.Entry.{Entry}
 use Rattle.subframes.specs.declared.page.PageTaken.{PageTaken}
 use Rattle.subframes.specs.declared.page.PageTaken.the-variants.{Unused, Used, Completes}
@@ -24,6 +24,9 @@ use Rattle.subframes.specs.SubframeInner.{Inside}
 use Rattle.subframes.specs.declared.subframe.CollectSubframe.{CollectSubframe}
 use Rattle.subframes.specs.declared.subframe.SubframeShown.{SubframeShown}
 use Rattle.subframes.specs.declared.subframe.SubframeShown.the-variants.{Shown, Nothing as NothingShown, Refused as NotShown}
+use Rattle.subframes.specs.declared.subframe.WordAnswer.{WordAnswer}
+use Rattle.subframes.specs.declared.subframe.WordAnswer.the-variants.{Refused as WordRefused, Unused as WordUnused, Used as WordUsed}
+use Rattle.subframes.specs.declared.subframe.WordTaken.{WordTaken}
 
 -- The refusals.
 module _ (s : State) (n : ℕ) where
@@ -133,6 +136,38 @@ module _ (n w : ℕ) where
       unfolding takeWord
       word-next e = rw (le-ltb 15 n h, le-ltb 14 w g, eq-eqb w n e)
 
+-- what its answer tells
+module _ (n w : ℕ) (x : WordTaken) (e : TakeWord n w x) (h : w < 15) where
+  pub took-next : x .answer ≡ WordUsed → (eqb w n ≡ true) × (x .next .words ≡ w + 1)
+  unfolding takeWord
+  took-next u = go (ltb 15 n) (ltb 14 w) (eqb w n) refl (ap (λ (y : WordStep). y .answer) e) (ap (λ (y : WordStep). y .next) e)
+    where
+      go : (a b c : Bool) → eqb w n ≡ c
+          → meaning-word (x .answer) ≡ cond {A = WordStep} a (record { next = 0; answer = refused 12 }) (cond b (record { next = 0; answer = refused 7 }) (cond c (record { next = n + 1; answer = gives [] }) (record { next = n; answer = nothing }))) .answer
+          → x .next .words ≡ cond {A = WordStep} a (record { next = 0; answer = refused 12 }) (cond b (record { next = 0; answer = refused 7 }) (cond c (record { next = n + 1; answer = gives [] }) (record { next = n; answer = nothing }))) .next
+          → (c ≡ true) × (x .next .words ≡ w + 1)
+      go false false true q f g = (refl, omega (arith, g, eqb-true w n q))
+      go false false false q f g = let f : gives [] ≡ nothing = rw u at f in let z : _≡_ {A = ℕ} 0 1 = cc in absurd (omega arith)
+      go false true c q f g = let f : gives [] ≡ refused 7 = rw u at f in let z : _≡_ {A = ℕ} 0 1 = cc in absurd (omega arith)
+      go true b c q f g = let f : gives [] ≡ refused 12 = rw u at f in let z : _≡_ {A = ℕ} 0 1 = cc in absurd (omega arith)
+
+  took-other : {a : WordAnswer} → x .answer ≡ a → (meaning-word a ≡ gives [] → ⊥) → eqb w n ≡ false
+  unfolding takeWord
+  took-other {a} u ne = go (eqb w n) refl
+    where
+      go : (c : Bool) → eqb w n ≡ c → c ≡ false
+      go false q = refl
+      go true q =
+          let same : w ≡ n = eqb-true w n q in
+          let next : meaning-word (x .answer) ≡ gives [] = ap (λ (y : WordStep). y .answer) e ∙ sym (ap (λ (y : WordStep). y .answer) (word-next n w (omega arith) (omega arith) same)) in
+          absurd (ne (rw u at next))
+
+  pub took-unused : x .answer ≡ WordUnused → eqb w n ≡ false
+  took-unused u = took-other u (λ z. let y : _≡_ {A = ℕ} 0 1 = cc in omega arith)
+
+  pub took-refused : {k : ℕ} → x .answer ≡ WordRefused k → eqb w n ≡ false
+  took-refused u = took-other u (λ z. let y : _≡_ {A = ℕ} 0 1 = cc in omega arith)
+
 -- A change of week or subframe.
 module _ (s : State) (week subframe : ℕ) where
   pub other-week-taken : (s .week ≡ week → ⊥) → _≡_ {A = State} (record { week = week; subframe = subframe; counts = replicate 36 0; hkroot = s .hkroot; mack = s .mack }) (changed s week subframe)
@@ -180,26 +215,34 @@ module _ (s : State) (bytes : List ℕ) (i w : ℕ) where
 
 -- at lent counts
 module _ (counts h m bytes : List ℕ) (i w : ℕ) where
-  pub not-next : (getD counts i 0 ≡ w → ⊥) → Offered counts h m bytes i w Unused counts h m
-  not-next ne =
-      let e : eqb w (getD counts i 0) ≡ false = ne-eqb w (getD counts i 0) (λ q. ne (sym q)) in
-      record { fed = λ week subframe. offered-not (stateOf week subframe counts h m) bytes i w e; is-used = sym e }
+  not-next : eqb w (getD counts i 0) ≡ false → Offered counts h m bytes i w Unused counts h m
+  not-next e = record { fed = λ week subframe. offered-not (stateOf week subframe counts h m) bytes i w e; is-used = sym e }
 
-  module _ {x y : List ℕ} (same : getD counts i 0 ≡ w) (ex : x ≡ set h (15 * i + w) (getD bytes 0 0)) (ey : y ≡ put4 m (4 * (15 * i + w)) bytes) where
-    next : (r : PageTaken) → ((week subframe : ℕ) → answerOf r week subframe ≡ answerAt (w + 1) week subframe) → usedOf r ≡ true → Offered counts h m bytes i w r (set counts i (w + 1)) x y
+  module _ (x : WordTaken) (e : TakeWord (getD counts i 0) w x) (few : w < 15) where
+    pub count-refuses : {k : ℕ} → x .answer ≡ WordRefused k → Offered counts h m bytes i w Unused counts h m
+    count-refuses u = not-next (took-refused (getD counts i 0) w x e few u)
+
+    pub count-stays : x .answer ≡ WordUnused → Offered counts h m bytes i w Unused counts h m
+    count-stays u = not-next (took-unused (getD counts i 0) w x e few u)
+
+    pub count-rises : x .answer ≡ WordUsed → (x .next .words ≡ w + 1) × (getD counts i 0 ≡ w)
+    count-rises u = let t = took-next (getD counts i 0) w x e few u in (t .1, sym (eqb-true w (getD counts i 0) (t .0)))
+
+  module _ {x y : List ℕ} {n : ℕ} (same : getD counts i 0 ≡ w) (en : n ≡ w + 1) (ex : x ≡ set h (15 * i + w) (getD bytes 0 0)) (ey : y ≡ put4 m (4 * (15 * i + w)) bytes) where
+    next : (r : PageTaken) → ((week subframe : ℕ) → answerOf r week subframe ≡ answerAt n week subframe) → usedOf r ≡ true → Offered counts h m bytes i w r (set counts i n) x y
     next r ea u =
         let e : eqb w (getD counts i 0) ≡ true = eq-eqb w (getD counts i 0) (sym same) in
         let place : 4 * (15 * i + w) ≡ 60 * i + 4 * w = omega arith in
         record {
-          fed = λ week subframe. offered-used (stateOf week subframe counts h m) bytes i w e (used-is (stateOf week subframe counts h m) bytes i w ex (rw place at ey) refl (ea week subframe));
+          fed = λ week subframe. offered-used (stateOf week subframe counts h m) bytes i w e (used-is (stateOf week subframe counts h m) bytes i w ex (rw place at ey) en (ea week subframe));
           is-used = u ∙ sym e;
         }
 
-    pub next-used : (w ≡ 14 → ⊥) → Offered counts h m bytes i w Used (set counts i (w + 1)) x y
-    next-used ne = next Used (λ week subframe. answer-less (w + 1) week subframe (λ q. ne (omega arith))) refl
+    pub next-used : (n ≡ 15 → ⊥) → Offered counts h m bytes i w Used (set counts i n) x y
+    next-used ne = next Used (λ week subframe. answer-less n week subframe ne) refl
 
-    pub next-last : w ≡ 14 → Offered counts h m bytes i w Completes (set counts i (w + 1)) x y
-    next-last e = next Completes (λ week subframe. answer-15 (w + 1) week subframe (omega arith)) refl
+    pub next-last : n ≡ 15 → Offered counts h m bytes i w Completes (set counts i n) x y
+    next-last e = next Completes (λ week subframe. answer-15 n week subframe e) refl
 
 -- A call.
 module _ (s : State) (p : Page) {q : ℕ} (e : q ≡ refusal (feedChecks s p)) where

@@ -1,4 +1,6 @@
 // An admitted page at counts that are lent: one step of `feed` and of `feed_all`.
+use crate::subframe::WordAnswer;
+use crate::subframe::WordCount;
 ghost use mathlib.Core.Path.{_≡_};
 ghost use mathlib.Core.List.{List};
 ghost use Prim.Native.Nat.{ℕ, _+_, _<_};
@@ -51,7 +53,29 @@ fn place(hkroot: &mut [u8], mack: &mut [u8], page: &[u8], h: usize, m: usize)
     mack[m + 3] = d;
 }
 
-// The page of the satellite at `i`: used where it has the next word.
+// The page has the satellite's next word: its bytes are kept, and the count rises to `next`.
+fn keep(
+    counts: &mut [u8; 36],
+    hkroot: &mut [u8],
+    mack: &mut [u8],
+    page: &[u8],
+    i: usize,
+    word: u8,
+    next: u8,
+) -> PageTaken
+    requires { ⌜ (length (now hkroot) ≡ 540) × (length (now mack) ≡ 2160) × (length (now page) ≡ 5) × (i < 36) × (word < 15) × (next ≡ word + 1) × (getD (now counts) i 0 ≡ word) ⌝ }
+    ensures { λ r. ⌜ Offered (now (counts .entry)) (now (hkroot .entry)) (now (mack .entry)) (now (page .entry)) i word r (now (counts .exit)) (now (hkroot .exit)) (now (mack .exit)) ⌝ }
+{
+    let at = 15 * i + word as usize;
+    place(hkroot, mack, page, at, 4 * at);
+    counts[i] = next;
+    if next != 15 {
+        return PageTaken::Used;
+    }
+    PageTaken::Completes
+}
+
+// The page of the satellite at `i`: used where its count takes the word.
 fn offer_at(
     counts: &mut [u8; 36],
     hkroot: &mut [u8],
@@ -63,17 +87,13 @@ fn offer_at(
     requires { ⌜ (length (now hkroot) ≡ 540) × (length (now mack) ≡ 2160) × (length (now page) ≡ 5) × (i < 36) × (word < 15) ⌝ }
     ensures { λ r. ⌜ Offered (now (counts .entry)) (now (hkroot .entry)) (now (mack .entry)) (now (page .entry)) i word r (now (counts .exit)) (now (hkroot .exit)) (now (mack .exit)) ⌝ }
 {
-    if counts[i] != word {
-        return PageTaken::Unused;
+    let taken = WordCount { words: counts[i] }.take(word);
+    let answer = taken.answer;
+    match answer {
+        WordAnswer::Refused(_) => PageTaken::Unused,
+        WordAnswer::Unused => PageTaken::Unused,
+        WordAnswer::Used => keep(counts, hkroot, mack, page, i, word, taken.next.words),
     }
-    let w = word as usize;
-    let at = 15 * i + w;
-    place(hkroot, mack, page, at, 4 * at);
-    counts[i] = word + 1;
-    if word != 14 {
-        return PageTaken::Used;
-    }
-    PageTaken::Completes
 }
 
 // Takes an admitted page, where the lent counts are of week `week` and subframe `subframe`. They are then of the page's own.
