@@ -1,5 +1,10 @@
 //! bench PAGES: times of the port and of the published Rust for the same work, as a table.
+//! bench PAGES list: a line for each side of each work: its numbers, its units, its names.
+//! bench PAGES only WORK SIDE TIMES: does that side of that work so often, for a counter of instructions: what two numbers
+//! of times differ by is the work's own.
 use std::hint::black_box;
+use std::sync::OnceLock;
+use std::sync::atomic::{AtomicUsize, Ordering};
 
 mod collectors;
 mod pages;
@@ -10,6 +15,16 @@ mod readers;
 
 /// How often each work is timed; the least time counts.
 const REPEATS: usize = 15;
+
+enum Mode {
+    Table,
+    List,
+    Only { work: usize, side: usize, times: usize },
+}
+
+static MODE: OnceLock<Mode> = OnceLock::new();
+/// How many works there were before.
+static WORKS: AtomicUsize = AtomicUsize::new(0);
 
 /// The processor time of this thread in nanoseconds: another program on the machine does not add to it.
 fn clock() -> u64 {
@@ -52,8 +67,29 @@ impl Work<'_> {
         least
     }
 
+    /// Where no table is asked for, what is.
+    fn asked_else(&mut self) -> bool {
+        let number = WORKS.fetch_add(1, Ordering::Relaxed);
+        match MODE.get() {
+            Some(Mode::List) => {
+                for (place, (side, _)) in self.sides.iter().enumerate() {
+                    println!("{number} {place} {} {}, {side}", self.units, self.name);
+                }
+            }
+            Some(Mode::Only { work, side, times }) if *work == number => {
+                (0..*times).for_each(|_| drop(black_box(self.sides[*side].1())));
+            }
+            Some(Mode::Only { .. }) => {}
+            Some(Mode::Table) | None => return false,
+        }
+        true
+    }
+
     /// A row for each side.
     pub fn print(mut self) {
+        if self.asked_else() {
+            return;
+        }
         let times = self.times();
         for ((side, _), time) in self.sides.iter().zip(&times) {
             println!("| {} | {side} | {time:.1} | {:.2} |", self.name, time / times[0]);
@@ -62,17 +98,36 @@ impl Work<'_> {
 
     /// One row for two sides.
     pub fn print_pair(mut self) {
+        if self.asked_else() {
+            return;
+        }
         let times = self.times();
         println!("| {} | {:.1} | {:.1} | {:.2} |", self.name, times[0], times[1], times[1] / times[0]);
     }
 }
 
 fn main() {
-    let pages = std::env::args().nth(1).and_then(|word| word.parse().ok()).unwrap_or(2_000_000);
-    println!("| work | side | ns for each | of the Rust's time |\n|---|---|---|---|");
-    pages::run(pages);
+    let words: Vec<String> = std::env::args().collect();
+    let number = |place: usize| words.get(place).and_then(|word| word.parse().ok());
+    let mode = match words.get(2).map(String::as_str) {
+        None => Mode::Table,
+        Some("only") => Mode::Only {
+            work: number(3).expect("a work"),
+            side: number(4).expect("a side"),
+            times: number(5).expect("how often"),
+        },
+        Some(_) => Mode::List,
+    };
+    let table = matches!(mode, Mode::Table);
+    let _ = MODE.set(mode);
+    if table {
+        println!("| work | side | ns for each | of the Rust's time |\n|---|---|---|---|");
+    }
+    pages::run(number(1).unwrap_or(2_000_000));
     collectors::run();
-    println!("\n| reader | Rust, ns | C boundary, ns | of the Rust's time |\n|---|---|---|---|");
+    if table {
+        println!("\n| reader | Rust, ns | C boundary, ns | of the Rust's time |\n|---|---|---|---|");
+    }
     readers::run();
 }
 
