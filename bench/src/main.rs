@@ -77,7 +77,9 @@ impl Work<'_> {
                 }
             }
             Some(Mode::Only { work, side, times }) if *work == number => {
-                (0..*times).for_each(|_| drop(black_box(self.sides[*side].1())));
+                for _ in 0..*times {
+                    black_box(self.sides[*side].1());
+                }
             }
             Some(Mode::Only { .. }) => {}
             Some(Mode::Table) | None => return false,
