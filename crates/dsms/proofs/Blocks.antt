@@ -208,14 +208,6 @@ admitted-then id m b e z =
     let p = none-fails (feedChecks id m b) tt (sym e ∙ z) in
     (eqb-true (length m) 208 (not-false _ (p .0)), eqb-true (length b) 13 (not-false _ (p .1 .0)))
 
-pub stored-id : (s : State) (n : ℕ) (b : List ℕ) → stored s n b .id ≡ s .id
-unfolding stored
-stored-id s n b = go (getD (s .held) n false)
-  where
-    go : (x : Bool) → cond x s (record { id = s .id; came = s .came; held = set (s .held) n true; done = s .done; memory = put (s .memory) n b }) .id ≡ s .id
-    go true = refl
-    go false = refl
-
 pub complete-dsm : (s : State) (k : DsmType) {n : ℕ} {b : Bool} → n ≡ counted (dsmType (s .id)) (s .memory) → (n ≡ 0 → ⊥) → b ≡ allHeld (s .held) n → not b ≡ false
     → meaning-type k ≡ gives (dsmType (s .id) ∷ [])
     → _≡_ {A = Fed} (record { state = record { id = s .id; came = s .came; held = s .held; done = true; memory = s .memory }; answer = meaning-dsm (Complete (s .id) k (13 * n)) }) (finished s)

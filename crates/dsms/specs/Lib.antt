@@ -1,4 +1,5 @@
 pub mod Dsm
+pub mod DsmInner
 pub mod DsmPromises
 pub mod DsmRecovery
 pub mod DsmView

@@ -5,6 +5,7 @@ use layouts::dsm_header::DsmType;
 use layouts::dsm_kroot;
 use layouts::dsm_pkr;
 ghost use mathlib.Core.Path.{_≡_};
+ghost use mathlib.Core.Bool.{Bool};
 ghost use mathlib.Core.List.{List, [], _∷_};
 ghost use Prim.Native.Nat.{ℕ, _+_, _*_, _≤_, _<_};
 ghost use lib.ListN.{length};
@@ -12,6 +13,7 @@ ghost use Rattle.layouts.specs.Answer.{gives, refusal as refusalOf};
 ghost use Rattle.layouts.specs.Meaning.{meaning-type};
 ghost use Rattle.layouts.specs.DsmHeader.{dsmType};
 ghost use Rattle.dsms.specs.Dsm.{Fed, feedChecks, viewChecks, begun, put, counted, allHeld, stored, finished, taken};
+ghost use Rattle.dsms.specs.DsmInner.{stateOf};
 ghost use Rattle.dsms.specs.DsmPromises.{state, meaning-dsm, NewDsm, FeedDsm, ViewDsmShown, ViewDsm};
 
 // What has been collected of the DSM with this ID; its bytes are lent by the caller.
@@ -108,17 +110,15 @@ fn copy_block(dsm: &mut [u8], n: usize, block: &[u8])
 }
 
 // The block is held: its first copy is kept.
-fn store(collector: CollectDsm, dsm: &mut [u8], n: usize, block: &[u8]) -> CollectDsm
+fn store(held: &mut [bool; 16], dsm: &mut [u8], n: usize, block: &[u8])
     requires { ⌜ (n < 16) × (length (now dsm) ≡ 208) × (length (now block) ≡ 13) ⌝ }
-    ensures { λ r. ⌜ state r (now (dsm .exit)) ≡ stored (state collector (now (dsm .entry))) n (now (block .entry)) ⌝ }
+    ensures { λ r. ⌜ ((id : ℕ) (came done : Bool) → stateOf id came (now (held .exit)) done (now (dsm .exit)) ≡ stored (stateOf id came (now (held .entry)) done (now (dsm .entry))) n (now (block .entry))) ⌝ }
 {
-    if collector.held[n] {
-        return collector;
+    if held[n] {
+        return;
     }
     copy_block(dsm, n, block);
-    let mut next = collector;
-    next.held[n] = true;
-    next
+    held[n] = true;
 }
 
 // The number of blocks that byte 0 counts; 0 where the count is illegal.
@@ -196,7 +196,8 @@ fn take(collector: CollectDsm, dsm: &mut [u8], n: usize, block: &[u8]) -> DsmFed
             answer: DsmAnswer::Nothing,
         };
     }
-    let next = store(collector, dsm, n, block);
+    let mut next = collector;
+    store(&mut next.held, dsm, n, block);
     finish(next, dsm)
 }
 

@@ -1,6 +1,6 @@
 -- `dsm::store`: a held block keeps its first bytes.
 -- Assumes nothing.
-use Rattle.dsms.specs.DsmPromises.{state}
+use Rattle.dsms.specs.DsmInner.{stateOf}
 use Rattle.dsms.proofs.Blocks.{stored-held, stored-new}
 use borrow.Author.Needs.{needs}
 use Rattle.dsms.proofs.dsm.store.Statement.{statement}
@@ -10,19 +10,19 @@ element-copy-out-if1 : tie.Need-element-copy-out-if1
 element-copy-out-if1 c = search needs
 
 returns : tie.Need-returns
-returns c = search stored-held
+returns c = let a = c .before .before .before .before .args in λ id came done. stored-held (stateOf id came (a .held .now) done (a .dsm .now)) (a .n) (a .block .now) (c .if1 .taken)
 
 copy-block-requires : tie.Need-copy-block-requires
 copy-block-requires c κs = search needs
 
-element-write-next : tie.Need-element-write-next
-element-write-next c = search needs
+element-write-held : tie.Need-element-write-held
+element-write-held c = search needs
 
 same-length : tie.Need-same-length
 same-length c = search needs
 
 returns-2 : tie.Need-returns-2
-returns-2 c = let a = c .before .before .before .before .before .before .before .before .args in stored-new (state (a .t1) (a .dsm .now)) (a .n) (a .block .now) (search needs) (c .before .before .copy-block .ensures)
+returns-2 c = let a = c .before .before .before .before .before .before .before .before .args in λ id came done. stored-new (stateOf id came (a .held .now) done (a .dsm .now)) (a .n) (a .block .now) (search needs) (c .before .before .copy-block .ensures)
 
 pub store-spec : {M : Type 1} → statement M
 store-spec =
@@ -31,6 +31,6 @@ store-spec =
     element-copy-out-if1
     returns
     copy-block-requires
-    element-write-next
+    element-write-held
     same-length
     returns-2)

@@ -1,10 +1,7 @@
 -- `dsm::take`: nothing when done; else the block is stored and the count looked at.
 -- Assumes nothing.
-use mathlib.Core.Path.{_≡_, ap, _∙_}
-use Rattle.dsms.specs.Dsm.{State}
 use Rattle.dsms.specs.DsmPromises.{state}
-use native.Mathlib.Omega.{arith}
-use Rattle.dsms.proofs.Blocks.{taken-done, taken-on, stored-id}
+use Rattle.dsms.proofs.Blocks.{taken-done, taken-on}
 use borrow.Author.Needs.{needs}
 use Rattle.dsms.proofs.dsm.take.Statement.{statement}
 use Rattle.dsms.proofs.dsm.take.Tie as tie
@@ -16,19 +13,15 @@ store-requires : tie.Need-store-requires
 store-requires c κs = search needs
 
 finish-requires : tie.Need-finish-requires
-finish-requires c κs =
-    let a = c .before .before .before .before .before .before .before .before .args in
-    let s = state (a .collector) (a .dsm .now) in
-    let same : c .before .before .before .store .result .id ≡ a .collector .id = ap (λ (x : State). x .id) (c .before .before .before .store .ensures) ∙ stored-id s (a .n) (a .block .now) in
-    (omega (arith, c .before .before .before .before .before .before .before .before .pre .0), search needs)
+finish-requires c κs = search needs
 
 same-length : tie.Need-same-length
 same-length c = search needs
 
 returns-2 : tie.Need-returns-2
 returns-2 c =
-    let a = c .before .before .before .before .before .before .before .before .before .args in
-    taken-on (state (a .collector) (a .dsm .now)) (a .n) (a .block .now) (search needs) (c .before .before .before .before .store .ensures) (c .finish .ensures)
+    let a = c .before .before .before .before .before .before .before .before .before .before .args in
+    taken-on (state (a .collector) (a .dsm .now)) (a .n) (a .block .now) (search needs) (c .before .before .before .before .store .ensures (a .collector .id) (a .collector .came) (a .collector .done)) (c .finish .ensures)
 
 pub take-spec : {M : Type 1} → statement M
 take-spec = tie.close (tie.spec returns store-requires finish-requires same-length returns-2)
