@@ -1,4 +1,4 @@
-// Replays pages: `replay SATELLITE WEEK TIME < PAGES`. All that matters is in `collectors`; here are arguments, reading and writing.
+// Replays pages: `replay SATELLITE WEEK TIME < PAGES`. All that matters is in `collectors` and `texts`; here are arguments, reading and writing.
 mod asked;
 mod held;
 mod input;
