@@ -20,7 +20,8 @@ use Rattle.collectors.specs.ReplayInner.{ran, AtMostOne, InRange, Room}
 use Rattle.collectors.specs.declared.replay.PageReplay.{PageReplay}
 use Rattle.collectors.specs.declared.replay.Stepped.{Stepped}
 use Rattle.subframes.proofs.Pages.{answer-less}
-use Rattle.collectors.proofs.PageSteps.{one-few, pages-many}
+use Rattle.collectors.proofs.PageSteps.{one-few}
+use Rattle.collectors.proofs.PageRefusals.{pages-many}
 
 -- A page completes nothing unless its word is the last one.
 abbrev isDone : Answer → Bool

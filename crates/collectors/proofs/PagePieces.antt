@@ -20,7 +20,8 @@ use Rattle.dsms.specs.Dsm.{State as Dsms, Fed as DsmsFed, idOf, blockOf, feedCh
 use Rattle.collectors.specs.Replay.{Totals, State, new, Run, isCounted, one, passedOn, skipped, counted, fedPage, fed, pageStep, andThen, onward, replayed, pagesOf, wholePages, consumed, most, areFew, newChecks, replayChecks, Outcome, fedHkroot, osnma, later}
 use Rattle.collectors.specs.Pieces.{OneOfEach, AddsUp, TotalsAddUp, PagesAddUp, followedBy, SplitAnywhere, Call, called, calledAll, consumedBytes, BudgetsLegal, plus, Ready, InPieces, NewIsReady, UsedIsTaken, Example}
 use Rattle.collectors.proofs.PageFold.{at-most-one, Sound, sound-step}
-use Rattle.collectors.proofs.PageSteps.{pages-many, all-few, few-each, new-admitted, call-admitted, legal, replay-done}
+use Rattle.collectors.proofs.PageSteps.{new-admitted}
+use Rattle.collectors.proofs.PageRefusals.{pages-many, all-few, few-each, call-admitted, legal, replay-done}
 use Rattle.subframes.proofs.Pages.{seen}
 use Rattle.dsms.proofs.Blocks.{header-id, header-block, admitted-then}
 use Rattle.dsms.proofs.DsmRun.{put-long}

@@ -1,6 +1,6 @@
 -- `replay::refuses`: one number for each test.
 -- Assumes nothing.
-use Rattle.collectors.proofs.PageSteps.{other-dsm-bytes, other-subframes, other-dsm-id, other-totals, other-place, other-budget, call-admitted}
+use Rattle.collectors.proofs.PageRefusals.{other-dsm-bytes, other-subframes, other-dsm-id, other-totals, other-place, other-budget, call-admitted}
 use borrow.Author.Needs.{needs}
 use Rattle.collectors.proofs.replay.refuses.Statement.{statement}
 use Rattle.collectors.proofs.replay.refuses.Tie as tie

@@ -3,7 +3,7 @@
 use Rattle.collectors.specs.ReplayInner.{ran}
 use native.Mathlib.Omega.{arith}
 use Rattle.collectors.specs.ReplayPromises.{state}
-use Rattle.collectors.proofs.PageSteps.{legal, legal-range, legal-room, replay-refused, replay-done}
+use Rattle.collectors.proofs.PageRefusals.{legal, legal-range, legal-room, replay-refused, replay-done}
 use borrow.Author.Needs.{needs}
 use Rattle.collectors.proofs.replay.replay.Statement.{statement}
 use Rattle.collectors.proofs.replay.replay.Tie as tie

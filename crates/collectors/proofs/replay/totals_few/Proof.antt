@@ -1,6 +1,6 @@
 -- `replay::totals_few`: one total after the other.
 -- Assumes nothing.
-use Rattle.collectors.proofs.PageSteps.{many-pages, many-skipped, many-used, many-unused, many-subframes, many-dsms, all-few}
+use Rattle.collectors.proofs.PageRefusals.{many-pages, many-skipped, many-used, many-unused, many-subframes, many-dsms, all-few}
 use Rattle.collectors.proofs.replay.totals_few.Statement.{statement}
 use Rattle.collectors.proofs.replay.totals_few.Tie as tie
 
