@@ -4,13 +4,19 @@
 use Prim.Native.Nat.{ℕ}
 use mathlib.Core.List.{List, [], _∷_}
 use mathlib.Core.Path.{_≡_}
+use lib.ListN.{getD}
 use Rattle.layouts.specs.Answer.{Answer, refused, nothing, gives, Copied}
 
--- the refusal number of an answer
+-- the refusal number of an answer, and the numbers that it gives
 abbrev pub number : Answer → ℕ
 number (refused n) = n
 number nothing = 0
 number (gives l) = 0
+
+abbrev pub numbers : Answer → List ℕ
+numbers (refused n) = []
+numbers nothing = []
+numbers (gives l) = l
 
 -- A lent number, which held `before`.
 pub record One : Type 0 where
@@ -18,10 +24,7 @@ pub record One : Type 0 where
   pub value : ℕ
 
 unfoldable pub one : ℕ → Answer → One
-one before (refused n) = record { refusal = n; value = before }
-one before nothing = record { refusal = 0; value = before }
-one before (gives []) = record { refusal = 0; value = before }
-one before (gives (v ∷ vs)) = record { refusal = 0; value = v }
+one before a = record { refusal = number a; value = getD (numbers a) 0 before }
 
 -- the number returned and the lent number afterwards are the answer's
 abbrev pub Told : ℕ → ℕ → ℕ → Answer → Type 0
@@ -34,11 +37,7 @@ pub record Two : Type 0 where
   pub many : ℕ
 
 unfoldable pub two : ℕ → ℕ → Answer → Two
-two a b (refused n) = record { refusal = n; first = a; many = b }
-two a b nothing = record { refusal = 0; first = a; many = b }
-two a b (gives []) = record { refusal = 0; first = a; many = b }
-two a b (gives (v ∷ [])) = record { refusal = 0; first = a; many = b }
-two a b (gives (v ∷ w ∷ vs)) = record { refusal = 0; first = v; many = w }
+two a b answer = record { refusal = number answer; first = getD (numbers answer) 0 a; many = getD (numbers answer) 1 b }
 
 abbrev pub Placed : ℕ → ℕ → ℕ → ℕ → ℕ → Answer → Type 0
 Placed a b r c d answer = _≡_ {A = Two} (record { refusal = r; first = c; many = d }) (two a b answer)
@@ -52,7 +51,7 @@ pub record Slot : Type 0 where
 
 unfoldable pub slot : ℕ → ℕ → ℕ → Answer → Slot
 slot a b c (refused n) = record { refusal = n; flex = a; adkd = b; object = c }
-slot a b c nothing = record { refusal = 0; flex = a; adkd = b; object = c }
+slot a b c nothing = record { refusal = number nothing; flex = a; adkd = b; object = c }
 slot a b c (gives []) = record { refusal = 0; flex = 1; adkd = 0; object = 0 }
 slot a b c (gives (v ∷ [])) = record { refusal = 0; flex = 0; adkd = 0; object = v }
 slot a b c (gives (v ∷ w ∷ vs)) = record { refusal = 0; flex = 0; adkd = v; object = w }
@@ -73,9 +72,8 @@ pub record Counted : Type 0 where
 
 abbrev pub countedBy : ℕ → List ℕ → List ℕ → Answer → Counted
 countedBy before held now (refused n) = record { refusal = n; value = before; bytes = held }
-countedBy before held now nothing = record { refusal = 0; value = before; bytes = held }
-countedBy before held now (gives []) = record { refusal = 0; value = before; bytes = held }
-countedBy before held now (gives (v ∷ vs)) = record { refusal = 0; value = v; bytes = now }
+countedBy before held now nothing = record { refusal = number nothing; value = before; bytes = held }
+countedBy before held now (gives l) = record { refusal = 0; value = getD l 0 before; bytes = now }
 
 unfoldable pub counted : ℕ → List ℕ → Copied → Counted
 counted before held c = countedBy before held (c .bytes) (c .answer)
