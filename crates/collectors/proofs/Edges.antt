@@ -6,9 +6,9 @@ use Rattle.layouts.specs.Bits.{field, bit}
 use Rattle.layouts.specs.Sizes.{krootBlocks, pkrBlocks, keySizes, tagSizes, ecdsaFunctions}
 use Rattle.layouts.specs.DsmKroot.{padding-to-block, signature-length, ecdsaFunction}
 use Rattle.layouts.specs.Mack.{listed, nt}
-use Rattle.layouts.specs.Maclt.{table, entry}
+use Rattle.layouts.specs.Maclt.{table, entry, flxIndices}
 use Rattle.collectors.specs.Edges.{EdgesHold}
 
 pub edges-hold : EdgesHold
-unfolding answered refusal field bit krootBlocks pkrBlocks keySizes tagSizes ecdsaFunctions padding-to-block signature-length ecdsaFunction listed nt table entry
-edges-hold = ((refl, (refl, tt)), ((refl, (refl, tt)), ((refl, (refl, tt)), ((refl, (refl, (refl, tt))), ((refl, (refl, (refl, tt))), ((refl, (refl, tt)), ((refl, (refl, tt)), ((refl, tt), ((refl, (refl, (refl, tt))), ((refl, tt), ((refl, (refl, tt)), ((refl, tt), tt))))))))))))
+unfolding answered refusal field bit krootBlocks pkrBlocks keySizes tagSizes ecdsaFunctions padding-to-block signature-length ecdsaFunction listed nt table entry flxIndices
+edges-hold = ((refl, (refl, tt)), ((refl, (refl, tt)), ((refl, (refl, tt)), ((refl, (refl, (refl, tt))), ((refl, (refl, (refl, tt))), ((refl, (refl, tt)), ((refl, (refl, tt)), ((refl, tt), ((refl, (refl, (refl, tt))), ((refl, (refl, tt)), ((refl, (refl, tt)), ((refl, tt), tt))))))))))))

@@ -11,7 +11,7 @@ use Rattle.layouts.specs.Sizes.{size, readSize, krootBlocks, pkrBlocks}
 use Rattle.layouts.specs.DsmKroot.{krootLayout, ecdsaFunction}
 use Rattle.layouts.specs.DsmPkr.{pkrLayout, newKeySizes}
 use Rattle.layouts.specs.Mack.{bytesOf, sizeChecks, nt, keyStart}
-use Rattle.layouts.specs.Maclt.{entry, flxOf, rowOf, table}
+use Rattle.layouts.specs.Maclt.{entry, flxIndices}
 use Rattle.subframes.specs.Subframe.{wordOf, subframeOf}
 
 -- What is asked.
@@ -27,7 +27,8 @@ pub data Asked : Type 0 where
   key-bit : ℕ → ℕ → Asked
   -- the ECDSA function of a KROOT message of that length, whose key size has that code
   curve : ℕ → ℕ → Asked
-  -- the FLX tags of a table's message, and the slot of a tag
+  -- how many FLX tags a table's message has, and which, in four bytes; and the slot of a tag
+  flx-many : ℕ → ℕ → Asked
   flx : ℕ → ℕ → Asked
   slot : ℕ → ℕ → ℕ → Asked
   -- the key bytes of a PKR of that type with that many blocks
@@ -42,7 +43,8 @@ answer (pkr-count c) = readSize (the "NB_DP" pkrLayout) (size pkrBlocks) (16 * c
 answer (tags K T) = answered (refusal (sizeChecks (bytesOf K) T)) (gives (nt (bytesOf K) T ∷ []))
 answer (key-bit K T) = gives (keyStart (bytesOf K) T ∷ [])
 answer (curve code len) = ecdsaFunction (0 ∷ 0 ∷ 16 * code ∷ replicate (len - 3) 0)
-answer (flx id message) = gives (flxOf message (rowOf id table))
+answer (flx-many id message) = flxIndices id message .answer
+answer (flx id message) = gives (flxIndices id message .bytes)
 answer (slot id message tag) = entry id message tag
 answer (new-key type blocks) = gives (size (newKeySizes blocks) type ∷ [])
 
@@ -80,7 +82,7 @@ edges =
     edge "P7 K 128, T 20: nt 9, key at bit 324." (tags 128 20 ⇒ is 9 ∷ key-bit 128 20 ⇒ is 324 ∷ []) ∷
     edge "P8 K 96, T 20: nt 10." (tags 96 20 ⇒ is 10 ∷ []) ∷
     edge "P9 k 16, length 104: P-256; 169: P-521; 117: refusal 11." (curve 4 104 ⇒ is 256 ∷ curve 4 169 ⇒ is 521 ∷ curve 4 117 ⇒ refused 11 ∷ []) ∷
-    edge "P10 table 35, message 1: FLX 1, 2, 4, 5." (flx 35 1 ⇒ gives (1 ∷ 2 ∷ 4 ∷ 5 ∷ []) ∷ []) ∷
+    edge "P10 table 35, message 1: FLX 1, 2, 4, 5." (flx-many 35 1 ⇒ is 4 ∷ flx 35 1 ⇒ gives (1 ∷ 2 ∷ 4 ∷ 5 ∷ []) ∷ []) ∷
     edge "P11 table 28, message 1: tag 6 is 04S, tag 10 is 9." (slot 28 1 6 ⇒ gives (4 ∷ 0 ∷ []) ∷ slot 28 1 10 ⇒ refused 9 ∷ []) ∷
     edge "P12 alert, count 13: 39 bytes." (new-key 4 13 ⇒ is 39 ∷ []) ∷
     []
