@@ -3,6 +3,6 @@ pub mod Searches
 pub mod StoreKept
 pub mod StoreRecord
 pub mod StoreSound
-pub mod StoreTwice
+pub mod StoreExamples
 pub mod StoreUnique
 pub mod Stored

@@ -95,3 +95,12 @@ pub record TwoPlaces : Type 0 where
   pub lower : hasTime (store 36 12 twice (from 2 0) .state .storage) 1200 0 0 ≡ true
   pub asked : reached 12 (store 36 12 twice (from 2 0) .state .storage) 1200 0 ≡ 0
   pub missed : get 36 12 (store 36 12 twice (from 2 0) .state .storage) (from 2 0 .asked) ≡ nothing
+
+-- How long a place lasts, in a store of one message and two times: the message of time 0 is in place 0 when nothing is stored after it, when time 30 is, and no more when time 60 is
+abbrev pub single : State
+single = after 1 2 (newStore 1 2 (replicate 120 0)) (from 1 0 ∷ [])
+
+pub record PlaceLasts : Type 0 where
+  pub at-once : lasts 1 2 single [] 0 ≡ true
+  pub next-time : lasts 1 2 single (from 1 30 ∷ []) 0 ≡ true
+  pub ring-round : lasts 1 2 single (from 1 30 ∷ from 1 60 ∷ []) 0 ≡ false
