@@ -107,9 +107,11 @@ UsedIsTaken =
 abbrev pub goodPage : List ℕ
 goodPage = replicate 15 0 ++ (128 ∷ replicate 14 0)
 
+abbrev pub fifteen : Run
+fifteen = replayed (new 3 1200 60 (replicate 540 0) (replicate 2160 0) (replicate 208 0)) (replicate 15 goodPage)
+
 abbrev pub Example : Type 0
 Example =
-    (replayed (new 3 1200 60 (replicate 540 0) (replicate 2160 0) (replicate 208 0)) (replicate 15 goodPage) .subframes ≡ record { week = 1200; time = 60 } ∷ [])
-    × (replayed (new 3 1200 60 (replicate 540 0) (replicate 2160 0) (replicate 208 0)) (replicate 15 goodPage) .dsms ≡ [])
-    × (replayed (new 3 1200 60 (replicate 540 0) (replicate 2160 0) (replicate 208 0)) (replicate 15 goodPage) .state .totals
-    ≡ record { pages = 15; skipped = 0; used = 15; unused = 0; subframes = 1; dsms = 0 })
+    (fifteen .subframes ≡ record { week = 1200; time = 60 } ∷ [])
+    × (fifteen .dsms ≡ [])
+    × (fifteen .state .totals ≡ record { pages = 15; skipped = 0; used = 15; unused = 0; subframes = 1; dsms = 0 })
