@@ -10,7 +10,6 @@ use lib.ListN.{length, getD, replicate, List·getD-eq-default}
 use borrow.Author.Tests.{eq-eqb, ne-eqb, lt-ltb, le-ltb, le-leb, lt-leb}
 use Rattle.layouts.specs.Answer.{refused, gives, Copied, refusal, answered}
 use Rattle.layouts.specs.Maclt.{Slot, fixed, flex, Row, row, table, rowOf, slots, numbers, entry, flxOf, padded, flxChecks, flxIndices, ntOf}
-use Rattle.layouts.specs.MacltTable.{every}
 use Rattle.layouts.specs.Inner.{codedSlots, rowNumber, flxNumber, oneIfSome}
 use Rattle.layouts.specs.Meaning.{meaning-number}
 use Rattle.layouts.specs.declared.answer.Number.{Number}
@@ -55,6 +54,10 @@ pub one-some : {t : ℕ} → (t ≡ 0 → ⊥) → (1 ≡ oneIfSome t) × (1 ≤
 one-some {t} ne = (rw (ne-eqb t 0 ne), omega arith)
 
 -- A test of every row, and of one with no tag, is a test of the row of any ID.
+abbrev every : (Row → Bool) → List Row → Bool
+every test [] = true
+every test (r ∷ rs) = cond (test r) (every test rs) false
+
 passes-on : (test : Row → Bool) (k : ℕ) (rs : List Row) → T (test (row k 0 [] [])) → T (every test rs) → T (test (rowOf k rs))
 passes-on test k [] e t = e
 passes-on test k (r ∷ rs) e t = go (eqb k (r .id)) (passes-on test k rs e (both-right (test r) (every test rs) t))

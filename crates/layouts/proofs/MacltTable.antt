@@ -6,15 +6,15 @@ use Rattle.layouts.specs.MacltTable.{Filled, TimingIsSelf, FewFlx, Timin
 
 pub filled : Filled
 unfolding table
-filled = tt
+filled = refl
 
 pub timing-is-self : TimingIsSelf
 unfolding table
-timing-is-self = tt
+timing-is-self = refl
 
 pub few-flx : FewFlx
 unfolding table
-few-flx = tt
+few-flx = refl
 
 pub timing : Timing
 unfolding table

@@ -1,37 +1,37 @@
 -- What holds of the look-up table as a whole: the recorder lives by it.
 -- Assumes nothing.
-use Prim.Native.Nat.{ℕ, suc, _+_}
-use mathlib.Core.List.{List, [], _∷_, map}
-use mathlib.Core.Bool.{Bool, true, false, cond}
+use Prim.Native.Nat.{ℕ, suc, _+_, max}
+use mathlib.Core.List.{List, [], _∷_, _++_, map}
+use mathlib.Core.Bool.{cond}
 use mathlib.Core.Path.{_≡_}
-use lib.ListN.{length}
-use lib.Dec.{T, leb, eqb}
+use lib.ListN.{length, replicate}
+use lib.Dec.{eqb}
 use Rattle.layouts.specs.Maclt.{Slot, fixed, flex, Row, table, flxOf}
-
--- a test passes at every row, and in a row for both messages
-abbrev pub every : (Row → Bool) → List Row → Bool
-every test [] = true
-every test (r ∷ rs) = cond (test r) (every test rs) false
-
-abbrev pub both : (List Slot → Bool) → Row → Bool
-both test r = cond (test (r .message0)) (test (r .message1)) false
 
 -- every ID has exactly nt-1 slots in both messages
 abbrev pub Filled : Type 0
-Filled = T (every (λ (r : Row). both (λ (s : List Slot). eqb (length s + 1) (r .nt)) r) table)
+Filled =
+    map (λ (r : Row). (length (r .message0) + 1) ∷ (length (r .message1) + 1) ∷ []) table
+    ≡ map (λ (r : Row). r .nt ∷ r .nt ∷ []) table
 
--- an ADKD 4 slot is always S
-abbrev pub self-timed : List Slot → Bool
-self-timed [] = true
-self-timed (fixed adkd object ∷ ss) = cond (eqb adkd 4) (cond (eqb object 0) (self-timed ss) false) (self-timed ss)
-self-timed (flex ∷ ss) = self-timed ss
+-- the objects of the ADKD 4 slots of a sequence
+abbrev pub timed : List Slot → List ℕ
+timed [] = []
+timed (fixed adkd object ∷ ss) = cond (eqb adkd 4) (object ∷ timed ss) (timed ss)
+timed (flex ∷ ss) = timed ss
 
+-- an ADKD 4 slot is always S: each ID has one
 abbrev pub TimingIsSelf : Type 0
-TimingIsSelf = T (every (λ (r : Row). both self-timed r) table)
+TimingIsSelf = map (λ (r : Row). timed (r .message0) ++ timed (r .message1)) table ≡ replicate 12 (0 ∷ [])
 
--- no sequence has more than four FLX
+-- the most FLX of a sequence
+abbrev pub mostFlx : List Row → ℕ
+mostFlx [] = 0
+mostFlx (r ∷ rs) = max (length (flxOf 0 r)) (max (length (flxOf 1 r)) (mostFlx rs))
+
+-- no sequence has more than four FLX, and one has four
 abbrev pub FewFlx : Type 0
-FewFlx = T (every (λ (r : Row). cond (leb (length (flxOf 0 r)) 4) (leb (length (flxOf 1 r)) 4) false) table)
+FewFlx = mostFlx table ≡ 4
 
 -- the tags that speak for the timing data (ADKD 4), of a sequence whose first slot is that tag's
 abbrev pub timing : ℕ → List Slot → List ℕ
