@@ -18,7 +18,7 @@ use Rattle.collectors.specs.Replay.{Time, later, State, Run, isCounted, 
 use Rattle.collectors.specs.ReplayPromises.{state}
 use Rattle.collectors.specs.ReplayInner.{ran, AtMostOne, InRange, Room}
 use Rattle.collectors.specs.declared.replay.PageReplay.{PageReplay}
-use Rattle.collectors.specs.declared.replay.Stepped.{Stepped}
+use Rattle.collectors.specs.declared.page_step.Stepped.{Stepped}
 use Rattle.subframes.proofs.Pages.{answer-less}
 use Rattle.collectors.proofs.PageSteps.{one-few}
 use Rattle.collectors.proofs.PageRefusals.{pages-many}

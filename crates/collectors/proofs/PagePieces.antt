@@ -5,26 +5,23 @@ use native.Mathlib.Nat.{add-zero, zero-add, suc-add}
 use native.Mathlib.Omega.{arith}
 use mathlib.Core.Path.{_≡_, refl, sym, ap, _∙_}
 use mathlib.Core.List.{List, [], _∷_, _++_, append-nil, append-assoc}
-use mathlib.Core.Bool.{Bool, true, false, cond, not, _&&_}
-use lib.ListN.{length, getD, set, take, drop, replicate, length-append, length-drop, length-set, take-append-drop}
+use mathlib.Core.Bool.{Bool, true, false, cond, not}
+use lib.ListN.{length, take, drop, replicate, length-append, length-drop, take-append-drop}
 use lib.Seq.{length-take-le, take-append-le, drop-append-le}
-use lib.Dec.{leb, eqb, eqb·suc-zero}
-use borrow.Author.Tests.{le-leb, ltb-false}
+use borrow.Author.Tests.{ltb-false}
 use Rattle.layouts.specs.Answer.{Answer, refused, nothing, gives, refusal, copied}
 use Rattle.layouts.specs.Bits.{bit, field}
 use Rattle.layouts.proofs.Answers.{none-fails}
-use Rattle.layouts.specs.DsmHeader.{dsmType}
 use Rattle.layouts.specs.Sizes.{krootBlocks}
-use Rattle.subframes.specs.Subframe.{isUsed, Page, wordOf, subframeOf, small, State as Subframes, Fed as SubframesFed, feedChecks, changed, used, offered, answerAt, feed as feedPage, view as viewPage}
-use Rattle.dsms.specs.Dsm.{State as Dsms, Fed as DsmsFed, idOf, blockOf, feedChecks as blockChecks, begun, put, stored, counted as counted-blocks, allHeld, count, whole, finished, taken, feed as feedBlock}
+use Rattle.subframes.specs.Subframe.{isUsed, small, State as Subframes, changed, used, offered, answerAt, feed as feedPage, view as viewPage}
+use Rattle.dsms.specs.Dsm.{State as Dsms, begun, stored, counted as counted-blocks, allHeld, whole, finished, taken, feed as feedBlock}
 use Rattle.collectors.specs.Replay.{Totals, State, new, Run, isCounted, one, passedOn, skipped, counted, fedPage, fed, pageStep, andThen, onward, replayed, pagesOf, wholePages, consumed, most, areFew, newChecks, replayChecks, Outcome, fedHkroot, osnma, later}
 use Rattle.collectors.specs.Pieces.{OneOfEach, AddsUp, TotalsAddUp, PagesAddUp, followedBy, SplitAnywhere, Call, called, calledAll, consumedBytes, BudgetsLegal, plus, Ready, InPieces, NewIsReady, UsedIsTaken, Example}
 use Rattle.collectors.proofs.PageFold.{at-most-one, Sound, sound-step}
 use Rattle.collectors.proofs.PageSteps.{new-admitted}
 use Rattle.collectors.proofs.PageRefusals.{pages-many, all-few, few-each, call-admitted, legal, replay-done}
-use Rattle.subframes.proofs.Pages.{seen}
-use Rattle.dsms.proofs.Blocks.{header-id, header-block, admitted-then}
-use Rattle.dsms.proofs.DsmRun.{put-long}
+use Rattle.subframes.proofs.SubframeSound.{Sound as Collecting, sound-admitted, sound-fed}
+use Rattle.dsms.proofs.DsmSound.{Sound as Gathering, sound-fed as sound-block}
 
 pub one-of-each : OneOfEach
 one-of-each s pages h = let q = at-most-one s pages h in (q .subframe-one, q .dsm-one)
@@ -108,138 +105,32 @@ pub split-anywhere : SplitAnywhere
 unfolding replayed
 split-anywhere s ps qs = onward-append ps qs (start s) ∙ onward-start qs (onward (start s) ps)
 
--- The subframe collector's record and lent bytes stay legal.
-pub record Fit (s : Subframes) : Type 0 where
-  pub h540 : length (s .hkroot) ≡ 540
-  pub m2160 : length (s .mack) ≡ 2160
-  pub weeks : s .week ≤ 4095
-  pub subframe-low : s .subframe ≤ 20159
-  pub counts-small : small (s .counts) ≡ true
-
-and-right : (a b : Bool) → (a && b) ≡ true → b ≡ true
-and-right true b h = h
-and-right false b h = let z : _≡_ {A = ℕ} 0 1 = cc in absurd (omega arith)
-
-small-set : (l : List ℕ) (i v : ℕ) → v ≤ 15 → small l ≡ true → small (set l i v) ≡ true
-unfolding small
-small-set [] i v h e = refl
-small-set (n ∷ ns) zero v h e = rw (le-leb v 15 h) (and-right (leb n 15) (small ns) e)
-small-set (n ∷ ns) (suc i) v h e = go (leb n 15) (small-set ns i v h) e
-  where
-    go : (b : Bool) → (small ns ≡ true → small (set ns i v) ≡ true) → (b && small ns) ≡ true → (b && small (set ns i v)) ≡ true
-    go true ih f = ih f
-    go false ih f = f
-
-fit-changed : (s : Subframes) (week subframe : ℕ) → Fit s → week ≤ 4095 → subframe ≤ 20159 → Fit (changed s week subframe)
-unfolding changed small
-fit-changed s week subframe f w u = go (eqb (s .week) week && eqb (s .subframe) subframe)
-  where
-    go : (b : Bool) → Fit (cond b s (record { week = week; subframe = subframe; counts = replicate 36 0; hkroot = s .hkroot; mack = s .mack }))
-    go true = f
-    go false = record { h540 = f .h540; m2160 = f .m2160; weeks = w; subframe-low = u; counts-small = refl }
-
-fit-offered : (s : Subframes) (bytes : List ℕ) (i w : ℕ) → Fit s → w ≤ 14 → Fit (offered s bytes i w .state)
-unfolding offered used
-fit-offered s bytes i w f h = go (eqb w (getD (s .counts) i 0))
-  where
-    go : (b : Bool) → Fit (cond {A = SubframesFed} b (used s bytes i w) (record { state = s; answer = nothing }) .state)
-    go true =
-        record {
-          h540 = rw length-set (f .h540);
-          m2160 = simp length-set (f .m2160);
-          weeks = f .weeks;
-          subframe-low = f .subframe-low;
-          counts-small = small-set (s .counts) i (w + 1) (omega arith) (f .counts-small);
-        }
-    go false = f
-
-fit-feed : (s : Subframes) (p : Page) → Fit s → p .week ≤ 4095 → p .time ≤ 604799 → Fit (feedPage s p .state)
-unfolding feedPage
-fit-feed s p f w t = go (eqb (refusal (feedChecks s p)) 0)
-  where
-    next : Subframes
-    next = changed s (p .week) (subframeOf (p .time))
-
-    go : (b : Bool)
-        → Fit (cond {A = SubframesFed} b (offered next (p .bytes) (p .satellite - 1) (wordOf (p .time))) (record { state = s; answer = refused (refusal (feedChecks s p)) }) .state)
-    go true = fit-offered next (p .bytes) (p .satellite - 1) (wordOf (p .time)) (fit-changed s (p .week) (subframeOf (p .time)) f w (omega arith)) (omega arith)
-    go false = f
-
--- The DSM collector's too.
-pub record Held (d : Dsms) : Type 0 where
-  pub d208 : length (d .memory) ≡ 208
-  pub id-low : d .id ≤ 15
-
-held-begun : (d : Dsms) (i : ℕ) → Held d → i ≤ 15 → Held (begun d i)
-unfolding begun
-held-begun d i h l = go (d .came && eqb (d .id) i)
-  where
-    go : (b : Bool) → Held (cond b d (record { id = i; came = true; held = replicate 16 false; done = false; memory = d .memory }))
-    go true = h
-    go false = record { d208 = h .d208; id-low = l }
-
-held-stored : (d : Dsms) (n : ℕ) (block : List ℕ) → Held d → n < 16 → length block ≡ 13 → Held (stored d n block)
-unfolding stored
-held-stored d n block h l e = go (getD (d .held) n false)
-  where
-    go : (b : Bool) → Held (cond b d (record { id = d .id; came = d .came; held = set (d .held) n true; done = d .done; memory = put (d .memory) n block }))
-    go true = h
-    go false = record { d208 = put-long (d .memory) n block (h .d208) e l; id-low = h .id-low }
-
-held-finished : (d : Dsms) → Held d → Held (finished d .state)
-unfolding finished
-held-finished d h = go (whole d)
-  where
-    go : (b : Bool)
-        → Held (cond {A = DsmsFed} b
-        (record { state = record { id = d .id; came = d .came; held = d .held; done = true; memory = d .memory }; answer = gives (d .id ∷ dsmType (d .id) ∷ 13 * count d ∷ []) })
-        (record { state = d; answer = nothing }) .state)
-    go true = record { d208 = h .d208; id-low = h .id-low }
-    go false = h
-
-held-taken : (d : Dsms) (n : ℕ) (block : List ℕ) → Held d → n < 16 → length block ≡ 13 → Held (taken d n block .state)
-unfolding taken
-held-taken d n block h l e = go (d .done)
-  where
-    go : (b : Bool) → Held (cond {A = DsmsFed} b (record { state = d; answer = nothing }) (finished (stored d n block)) .state)
-    go true = h
-    go false = held-finished (stored d n block) (held-stored d n block h l e)
-
-held-feed : (d : Dsms) (header : ℕ) (block : List ℕ) → Held d → Held (feedBlock d header block .state)
-unfolding feedBlock
-held-feed d header block h = go (refusal (blockChecks (d .id) (d .memory) block)) refl
-  where
-    go : (q : ℕ) → q ≡ refusal (blockChecks (d .id) (d .memory) block)
-        → Held (cond {A = DsmsFed} (eqb q 0) (taken (begun d (idOf header)) (blockOf header) block) (record { state = d; answer = refused q }) .state)
-    go zero e = held-taken (begun d (idOf header)) (blockOf header) block (held-begun d (idOf header) h (header-id header)) (header-block header) (admitted-then (d .id) (d .memory) block e refl .1)
-    go (suc q) e = rw (eqb·suc-zero q) h
-
-held-passed : (a : Answer) (s : Subframes) (n : ℕ) (d : Dsms) → Held d → Held (passedOn a s n d .state)
-unfolding fedHkroot
-held-passed (refused m) s n d h = h
-held-passed nothing s n d h = h
-held-passed (gives l) s n d h = held-feed d _ _ h
-
 -- A legal record stays legal.
+dsms-passed : (a : Answer) (s : Subframes) (n : ℕ) (d : Dsms) → Gathering d → Gathering (passedOn a s n d .state)
+unfolding fedHkroot
+dsms-passed (refused m) s n d h = h
+dsms-passed nothing s n d h = h
+dsms-passed (gives l) s n d h = sound-block d _ _ h
+
 pub record Good (s : State) (n : ℕ) : Type 0 where
   pub sound : Sound s n
-  pub fit : Fit (s .subframes)
-  pub held : Held (s .dsms)
+  pub collector : Collecting (s .subframes)
+  pub dsms : Gathering (s .dsms)
 
-fit-step : (s : State) (page : List ℕ) → s .next .week ≤ 4095 → s .next .time ≤ 604799 → Fit (s .subframes) → Fit (pageStep s page .state .subframes)
+collector-step : (s : State) (page : List ℕ) → Collecting (s .subframes) → Collecting (pageStep s page .state .subframes)
 unfolding pageStep fed counted skipped
-fit-step s page w t f = go (isCounted page)
+collector-step s page f = go (isCounted page)
   where
-    go : (b : Bool) → Fit (cond b (fed s (fedPage s page)) (skipped s) .state .subframes)
-    go true = fit-feed (s .subframes) (fedPage s page) f w t
+    go : (b : Bool) → Collecting (cond b (fed s (fedPage s page)) (skipped s) .state .subframes)
+    go true = sound-fed (s .subframes) (fedPage s page) f
     go false = f
 
-held-step : (s : State) (page : List ℕ) → Held (s .dsms) → Held (pageStep s page .state .dsms)
+dsms-step : (s : State) (page : List ℕ) → Gathering (s .dsms) → Gathering (pageStep s page .state .dsms)
 unfolding pageStep fed counted skipped
-held-step s page h = go (isCounted page)
+dsms-step s page h = go (isCounted page)
   where
-    go : (b : Bool) → Held (cond b (fed s (fedPage s page)) (skipped s) .state .dsms)
-    go true = held-passed (feedPage (s .subframes) (fedPage s page) .answer) (feedPage (s .subframes) (fedPage s page) .state) (s .satellite) (s .dsms) h
+    go : (b : Bool) → Gathering (cond b (fed s (fedPage s page)) (skipped s) .state .dsms)
+    go true = dsms-passed (feedPage (s .subframes) (fedPage s page) .answer) (feedPage (s .subframes) (fedPage s page) .state) (s .satellite) (s .dsms) h
     go false = h
 
 good-onward : (ps : List (List ℕ)) (r : Run) (n : ℕ) → Good (r .state) n → Good (onward r ps .state) (n + length ps)
@@ -250,7 +141,7 @@ good-onward (p ∷ ps) r n g =
     let f = g .sound in
     rw same
     (good-onward ps (andThen r p) (n + 1)
-    (record { sound = sound-step (r .state) n p f; fit = fit-step (r .state) p (f .in-weeks) (f .in-week) (g .fit); held = held-step (r .state) p (g .held) }))
+    (record { sound = sound-step (r .state) n p f; collector = collector-step (r .state) p (g .collector); dsms = dsms-step (r .state) p (g .dsms) }))
 
 few-totals : (s : State) (n : ℕ) → Sound s n → n ≤ most → true ≡ areFew (s .totals)
 few-totals s n f l =
@@ -259,9 +150,8 @@ few-totals s n f l =
 
 admitted-call : (s : State) (n budget : ℕ) → Good s n → n ≤ most → budget ≤ 15 → 0 ≡ refusal (replayChecks s budget)
 admitted-call s n budget g l b =
-    call-admitted s budget (g .held .d208)
-    (seen (s .subframes) 1 (g .fit .h540) (g .fit .m2160) (g .fit .weeks) (g .fit .subframe-low) (sym (g .fit .counts-small)) refl (omega arith) (omega arith))
-    refl (g .held .id-low) (few-totals s n (g .sound) l) refl
+    call-admitted s budget (g .dsms .d208)
+    (sound-admitted (s .subframes) (g .collector)) refl (g .dsms .id-low) (few-totals s n (g .sound) l) refl
     (new-admitted (s .satellite) (s .next .week) (s .next .time) (g .sound .some) (g .sound .few) (g .sound .in-weeks) (g .sound .in-week)) refl b
 
 -- Calls one after the other.
@@ -336,8 +226,8 @@ good-first s n r =
               subframes-few = omega (arith, f .4);
               dsms-few = omega (arith, f .5);
             };
-        fit = record { h540 = l .h540; m2160 = l .m2160; weeks = l .weeks; subframe-low = l .subframe-low; counts-small = l .counts-small };
-        held = record { d208 = l .d208; id-low = l .id-low };
+        collector = l .collector;
+        dsms = record { d208 = l .d208; id-low = l .id-low };
       },
     )
 
@@ -374,8 +264,8 @@ new-is-ready satellite week time n hkroot mack memory e lh lm ld l =
                   subframes-few = omega arith;
                   dsms-few = omega arith;
                 };
-            fit = record { h540 = lh; m2160 = lm; weeks = omega arith; subframe-low = omega arith; counts-small = zeros-small };
-            held = record { d208 = ld; id-low = omega arith };
+            collector = record { h540 = lh; m2160 = lm; week-fits = omega arith; subframe-fits = omega arith; all-small = zeros-small };
+            dsms = record { d208 = ld; id-low = omega arith };
           }) (omega arith) (omega arith));
       room =
           sym (all-few (plus (new satellite week time hkroot mack memory .totals) n) (omega arith) (omega arith) (omega arith) (omega arith) (omega arith) (omega arith));

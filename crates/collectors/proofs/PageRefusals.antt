@@ -1,17 +1,18 @@
 -- Laws of the page replay's refusals, and of what is known of a call that is not refused.
 -- Assumes nothing.
-use Prim.Native.Nat.{ℕ, zero, suc, _-_, _/_, _^_, _≤_, _<_, min}
+use Prim.Native.Nat.{ℕ, zero, suc, _/_, _^_, _≤_, _<_, min}
 use native.Mathlib.Omega.{arith}
 use mathlib.Core.Path.{_≡_, refl, sym, ap, _∙_}
 use mathlib.Core.List.{List, [], _∷_}
 use mathlib.Core.Bool.{Bool, true, false, not, _&&_}
 use lib.ListN.{length, drop}
-use lib.Dec.{leb, ltb, eqb}
+use lib.Dec.{leb, ltb}
 use borrow.Author.Tests.{leb-true, le-leb, lt-leb, le-ltb, lt-ltb, eq-eqb, ne-eqb, eqb-true, ltb-false, not-false}
 use Rattle.layouts.specs.Answer.{refused, gives, Check, _when_, refusal}
 use Rattle.layouts.proofs.Answers.{stopped, went-on, none-fails}
 use Rattle.collectors.specs.Replay.{Totals, State, Run, newChecks, replayChecks, skipped, areFew, most, Outcome, replay, replayed, pagesOf, consumed}
-use Rattle.subframes.specs.Subframe.{State as Subframes, small, viewChecks}
+use Rattle.subframes.specs.Subframe.{recordChecks}
+use Rattle.subframes.proofs.SubframeSound.{Sound as Collecting, passed-sound}
 use Rattle.collectors.specs.ReplayPromises.{state}
 use Rattle.collectors.specs.ReplayInner.{InRange, Room}
 use Rattle.collectors.specs.declared.replay.PageReplay.{PageReplay}
@@ -52,15 +53,6 @@ module _ (t : Totals) where
             all-few h = rw (le-leb (t .pages) most a, le-leb (t .skipped) most b, le-leb (t .used) most c, le-leb (t .unused) most d, le-leb (t .subframes) most e, le-leb (t .dsms) most h)
 
 -- The refusals of a call: the subframe collector's bytes and record, then what is left.
-abbrev rowsOf : Subframes → List Check
-rowsOf s =
-    1 when not (eqb (length (s .hkroot)) 540) ∷
-    1 when not (eqb (length (s .mack)) 2160) ∷
-    12 when ltb 4095 (s .week) ∷
-    12 when ltb 20159 (s .subframe) ∷
-    12 when not (small (s .counts)) ∷
-    []
-
 abbrev placeRows : State → ℕ → List Check
 placeRows s budget =
     12 when ltb (s .satellite) 1 ∷
@@ -94,15 +86,15 @@ module _ (s : State) (budget : ℕ) where
   unfolding refusal
   other-dsm-bytes ne = rw (ne-eqb (length (s .dsms .memory)) 208 ne)
 
-  module _ (l : length (s .dsms .memory) ≡ 208) {q : ℕ} (e : q ≡ refusal (viewChecks (s .subframes) 1)) where
+  module _ (l : length (s .dsms .memory) ≡ 208) {q : ℕ} (e : q ≡ refusal (recordChecks (s .subframes))) where
     pub other-subframes : (q ≡ 0 → ⊥) → q ≡ refusal (replayChecks s budget)
     unfolding refusal
-    other-subframes ne = rw (eq-eqb (length (s .dsms .memory)) 208 l) (stopped (rowsOf (s .subframes)) (othersOf s budget) e ne)
+    other-subframes ne = rw (eq-eqb (length (s .dsms .memory)) 208 l) (stopped (recordChecks (s .subframes)) (othersOf s budget) e ne)
 
     module _ (z : q ≡ 0) where
       behind : {r : ℕ} → r ≡ refusal (othersOf s budget) → r ≡ refusal (replayChecks s budget)
       unfolding refusal
-      behind h = rw (eq-eqb (length (s .dsms .memory)) 208 l) (went-on (rowsOf (s .subframes)) (othersOf s budget) tt e z h)
+      behind h = rw (eq-eqb (length (s .dsms .memory)) 208 l) (went-on (recordChecks (s .subframes)) (othersOf s budget) tt e z h)
 
       pub other-dsm-id : 15 < s .dsms .id → 12 ≡ refusal (replayChecks s budget)
       unfolding refusal
@@ -152,11 +144,7 @@ few-each t e = go (leb (t .pages) most) (leb (t .skipped) most) (leb (t .used) m
 -- each check of a call that is not refused passes
 pub record Legal (s : State) (budget : ℕ) : Type 0 where
   pub d208 : length (s .dsms .memory) ≡ 208
-  pub h540 : length (s .subframes .hkroot) ≡ 540
-  pub m2160 : length (s .subframes .mack) ≡ 2160
-  pub weeks : s .subframes .week ≤ 4095
-  pub subframe-low : s .subframes .subframe ≤ 20159
-  pub counts-small : small (s .subframes .counts) ≡ true
+  pub collector : Collecting (s .subframes)
   pub id-low : s .dsms .id ≤ 15
   pub totals-few : areFew (s .totals) ≡ true
   pub some : 1 ≤ s .satellite
@@ -170,11 +158,7 @@ legal s budget e z =
     let f = none-fails (replayChecks s budget) tt (sym e ∙ z) in
     record {
       d208 = eqb-true (length (s .dsms .memory)) 208 (not-false _ (f .0));
-      h540 = eqb-true (length (s .subframes .hkroot)) 540 (not-false _ (f .1 .0));
-      m2160 = eqb-true (length (s .subframes .mack)) 2160 (not-false _ (f .1 .1 .0));
-      weeks = ltb-false 4095 (s .subframes .week) (f .1 .1 .1 .0);
-      subframe-low = ltb-false 20159 (s .subframes .subframe) (f .1 .1 .1 .1 .0);
-      counts-small = not-false _ (f .1 .1 .1 .1 .1 .0);
+      collector = passed-sound (s .subframes) (othersOf s budget) (f .1);
       id-low = ltb-false 15 (s .dsms .id) (f .1 .1 .1 .1 .1 .1 .0);
       totals-few = not-false _ (f .1 .1 .1 .1 .1 .1 .1 .0);
       some = ltb-false (s .satellite) 1 (f .1 .1 .1 .1 .1 .1 .1 .1 .0);

@@ -20,7 +20,7 @@ use Rattle.layouts.specs.declared.dsm_header.DsmType.the-variants.{Kroot, Pkr}
 use Rattle.layouts.proofs.Answers.{pass, done, answer-of}
 use Rattle.layouts.proofs.Readers.{first-of}
 use Rattle.layouts.proofs.Fields.{field-lt}
-use Rattle.collectors.specs.Replay.{Time, later, State, new, Begun, begun, Dsm, Run, isCounted, osnma, newChecks, subframesIn, dsmsIn, one, hkrootOf, fedHkroot, passedOn, skipped, counted, fedPage, fed, pageStep, andThen, replay}
+use Rattle.collectors.specs.Replay.{Time, later, State, new, Begun, begun, Dsm, Run, isCounted, osnma, newChecks, subframesIn, dsmsIn, one, hkrootOf, fedHkroot, passedOn, skipped, counted, fedPage, fed, pageStep, andThen}
 use Rattle.subframes.specs.Subframe.{isUsed, Page, Fed as SubframesFed, feed as feedPage}
 use Rattle.dsms.specs.Dsm.{Fed as DsmsFed}
 use Rattle.subframes.specs.SubframePromises.{NewSubframe, HkrootMessageRead, meaning-subframe, state as subframeState}

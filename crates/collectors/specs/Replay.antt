@@ -7,7 +7,7 @@ use lib.ListN.{length, getD, take, drop}
 use lib.Dec.{leb, ltb, eqb}
 use Rattle.layouts.specs.Answer.{Answer, refused, nothing, gives, Check, _when_, refusal, copied}
 use Rattle.layouts.specs.Bits.{bit, field}
-use Rattle.subframes.specs.Subframe.{Page, small, isUsed, view, State as Subframes, new as newSubframes, Fed as SubframeFed, feed as feedPage}
+use Rattle.subframes.specs.Subframe.{Page, recordChecks, isUsed, view, State as Subframes, new as newSubframes, Fed as SubframeFed, feed as feedPage}
 use Rattle.dsms.specs.Dsm.{State as Dsms, new as newDsms, Fed as DsmFed, feed as feedBlock}
 
 -- "two seconds apart": the time of a page, and of a subframe
@@ -220,19 +220,15 @@ areFew t =
 abbrev pub replayChecks : State → ℕ → List Check
 replayChecks s budget =
     1 when not (eqb (length (s .dsms .memory)) 208) ∷
-    1 when not (eqb (length (s .subframes .hkroot)) 540) ∷
-    1 when not (eqb (length (s .subframes .mack)) 2160) ∷
-    12 when ltb 4095 (s .subframes .week) ∷
-    12 when ltb 20159 (s .subframes .subframe) ∷
-    12 when not (small (s .subframes .counts)) ∷
-    12 when ltb 15 (s .dsms .id) ∷
+    recordChecks (s .subframes) ++
+    (12 when ltb 15 (s .dsms .id) ∷
     12 when not (areFew (s .totals)) ∷
     12 when ltb (s .satellite) 1 ∷
     12 when ltb 36 (s .satellite) ∷
     12 when ltb 4095 (s .next .week) ∷
     12 when ltb 604799 (s .next .time) ∷
     7 when ltb 15 budget ∷
-    []
+    [])
 
 -- "and reports that number"; a call "completes at most one subframe and one DSM, and answers them"
 pub record Outcome : Type 0 where

@@ -9,7 +9,7 @@ use Rattle.collectors.specs.Replay.{Run}
 use Rattle.collectors.specs.ReplayPromises.{state, meaning-subframes, meaning-dsms}
 use Rattle.dsms.specs.declared.dsm.DsmFed.{DsmFed}
 use Rattle.collectors.specs.declared.replay.PageReplay.{PageReplay}
-use Rattle.collectors.specs.declared.replay.Stepped.{Stepped}
+use Rattle.collectors.specs.declared.page_step.Stepped.{Stepped}
 
 -- the DSM collector's record and answer, with the lent bytes then
 abbrev pub dsmOutcome : DsmFed → List ℕ → Fed

@@ -3,7 +3,7 @@
 use mathlib.Core.Path.{_≡_, refl, sym, ap, _∙_, subst, subst⁻¹}
 use mathlib.Core.List.{List, [], _∷_, _++_}
 use mathlib.Core.Bool.{Bool, true, false, cond, not, _&&_}
-use Prim.Native.Nat.{ℕ, zero, suc, _+_, _-_, _*_, _≤_, _<_}
+use Prim.Native.Nat.{ℕ, zero, suc, _+_, _*_, _≤_, _<_}
 use native.Mathlib.Omega.{arith}
 use lib.Dec.{eqb, eqb·suc-zero}
 use lib.Arith.{lt-of-le-ne}
@@ -12,7 +12,6 @@ use lib.ListN.{length, getD, set, take, replicate, length-set, getD-replicate}
 use lib.Seq.{getD-set-same, getD-set-other, take-add}
 use borrow.Author.Tests.{eqb-true, eqb-false, eq-eqb, ne-eqb, not-true}
 use Rattle.layouts.specs.Answer.{Answer, refused, nothing, gives, shown}
-use Rattle.layouts.specs.Bits.{the}
 use Rattle.layouts.specs.DsmHeader.{dsmType}
 use Rattle.dsms.specs.Dsm.{State, new, Fed, idOf, blockOf, begun, put, stored, counted, allHeld, finished, taken, view}
 use Rattle.dsms.specs.DsmRecovery.{Call, isAdmitted, fedTo, after, sameId, before, grown, run, fed, firstCopy, counts, allFed, isWhole, firstCopies, Alike, DsmRecovers}

@@ -11,8 +11,7 @@ ghost use Prim.Native.Nat.{ℕ, _+_, _*_, _≤_, _<_};
 ghost use lib.ListN.{length};
 ghost use Rattle.layouts.specs.Answer.{gives, refusal as refusalOf};
 ghost use Rattle.layouts.specs.Meaning.{meaning-type};
-ghost use Rattle.layouts.specs.DsmHeader.{dsmType};
-ghost use Rattle.dsms.specs.Dsm.{Fed, feedChecks, viewChecks, begun, put, counted, allHeld, stored, finished, taken};
+ghost use Rattle.dsms.specs.Dsm.{Fed, feedChecks, begun, put, counted, allHeld, stored, finished, taken};
 ghost use Rattle.dsms.specs.DsmInner.{stateOf};
 ghost use Rattle.dsms.specs.DsmPromises.{state, meaning-dsm, NewDsm, FeedDsm, ViewDsmShown, ViewDsm};
 

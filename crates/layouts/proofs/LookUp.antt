@@ -2,18 +2,15 @@
 -- Assumes nothing.
 use mathlib.Core.Path.{_≡_, refl, sym, ap, _∙_}
 use mathlib.Core.Bool.{Bool, true, false, cond}
-use mathlib.Core.List.{List, [], _∷_, _++_, map}
+use mathlib.Core.List.{List, [], _∷_}
 use Prim.Native.Nat.{ℕ, zero, suc, _+_, _-_, _*_, _/_, _%_, _^_, _≤_, _<_}
 use native.Mathlib.Omega.{arith}
 use lib.Dec.{T, ltb, leb, eqb, eqb·suc-zero, leb→le, eqb→eq}
 use lib.ListN.{length, getD, replicate, List·getD-eq-default}
 use borrow.Author.Tests.{eq-eqb, ne-eqb, lt-ltb, le-ltb, le-leb, lt-leb}
 use Rattle.layouts.specs.Answer.{refused, gives, Copied, refusal, answered}
-use Rattle.layouts.specs.Maclt.{Slot, fixed, flex, Row, row, table, rowOf, slots, numbers, entry, flxOf, padded, flxChecks, flxIndices, ntOf}
+use Rattle.layouts.specs.Maclt.{flex, Row, row, table, rowOf, slots, numbers, entry, flxOf, padded, flxChecks, flxIndices, ntOf}
 use Rattle.layouts.specs.Inner.{codedSlots, rowNumber, flxNumber, oneIfSome}
-use Rattle.layouts.specs.Meaning.{meaning-number}
-use Rattle.layouts.specs.declared.answer.Number.{Number}
-use Rattle.layouts.specs.declared.answer.Number.the-variants.{Value}
 use Rattle.layouts.proofs.Answers.{stop, pass, done}
 use Rattle.layouts.proofs.Tables.{below, holds-below, both-left, both-right}
 

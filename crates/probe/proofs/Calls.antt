@@ -1,10 +1,10 @@
 -- Each call: what the function of `collectors` promises of the record under its own name, told in numbers.
 -- Assumes nothing.
-use mathlib.Core.Path.{_≡_, refl, sym, ap, _∙_}
+use mathlib.Core.Path.{_≡_, ap, _∙_}
 use mathlib.Core.List.{List, []}
 use mathlib.Core.Bool.{Bool}
 use Prim.Native.Nat.{ℕ}
-use Rattle.layouts.specs.Answer.{Answer, Copied, shown, copied}
+use Rattle.layouts.specs.Answer.{Answer, shown, copied}
 use Rattle.dsms.specs.Dsm as d
 use Rattle.dsms.specs.DsmPromises as dp
 use Rattle.dsms.specs.DsmView as dv

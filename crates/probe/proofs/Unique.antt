@@ -1,7 +1,7 @@
 -- Two outcomes that meet a promise agree: each promise is one equation, so its parts are those of the right side.
 -- Assumes nothing.
 use mathlib.Core.Path.{_≡_, sym, ap, _∙_}
-use mathlib.Core.List.{List, []}
+use mathlib.Core.List.{List}
 use mathlib.Core.Bool.{Bool}
 use Prim.Native.Nat.{ℕ}
 use Rattle.dsms.specs.Dsm as d

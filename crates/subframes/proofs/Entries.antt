@@ -1,23 +1,23 @@
 -- Laws of a trace of pages.
 -- Assumes nothing.
-use Prim.Native.Nat.{ℕ, zero, suc, _+_, _-_, _*_, _/_, _%_, _≤_, _<_}
+use Prim.Native.Nat.{ℕ, suc, _+_, _-_, _*_, _/_, _%_, _≤_, _<_}
 use native.Mathlib.Omega.{arith}
 use mathlib.Core.Path.{_≡_, refl, sym, ap, _∙_, subst}
 use mathlib.Core.List.{List, [], _∷_}
-use mathlib.Core.Bool.{Bool, true, false, cond, not, _&&_}
-use lib.ListN.{length, getD, set, take, drop, length-set, length-take, length-drop, replicate}
-use lib.Dec.{leb, eqb}
-use borrow.Author.Tests.{le-leb, le-ltb, lt-ltb, eq-eqb, ne-eqb, eqb-true, ltb-false, not-false}
+use mathlib.Core.Bool.{true, false}
+use lib.ListN.{length, getD, take, drop, length-take, length-drop}
+use borrow.Author.Tests.{le-ltb, lt-ltb, eq-eqb, ne-eqb}
 use Rattle.layouts.specs.Answer.{Answer, refused, nothing, gives, refusal}
 use Rattle.layouts.proofs.Answers.{none-fails}
-use Rattle.subframes.specs.Subframe.{State, Page, Fed, wordOf, subframeOf, small, viewChecks, feedChecks, changed, used, offered, feed}
+use Rattle.subframes.specs.Subframe.{State, Page, Fed, recordChecks, viewChecks, feedChecks, feed}
 use Rattle.subframes.specs.Trace.{entryAt, entriesFrom, entries, FedMany, feedEach, traceChecks, feedAll}
 use Rattle.subframes.specs.PageInner.{pageOf, stateOf, answerOf, PageFed}
 use Rattle.subframes.specs.TraceInner.{entryChecks, completesOf, endsWith}
 use Rattle.subframes.specs.declared.page.Entry.{Entry}
 use Rattle.subframes.specs.declared.page.PageTaken.{PageTaken}
 use Rattle.subframes.specs.declared.page.PageTaken.the-variants.{Unused, Used, Completes}
-use Rattle.subframes.proofs.Pages.{fine, feed-refused, feed-admitted}
+use Rattle.subframes.proofs.Pages.{fine, feed-refused}
+use Rattle.subframes.proofs.SubframeSound.{Sound, sound, sound-passes, sound-fed}
 
 -- The refusals of an entry.
 module _ (n w t : ℕ) where
@@ -51,31 +51,10 @@ module _ (s : State) (trace : List ℕ) where
   unfolding refusal
   whole e h = rw (eq-eqb (length trace % 12) 0 e) h
 
--- A record and lent bytes that are not refused.
-pub record Sound (s : State) : Type 0 where
-  pub h540 : length (s .hkroot) ≡ 540
-  pub m2160 : length (s .mack) ≡ 2160
-  pub week-fits : s .week ≤ 4095
-  pub subframe-fits : s .subframe ≤ 20159
-  pub all-small : small (s .counts) ≡ true
-
-pub sound : (s : State) → refusal (viewChecks s 1) ≡ 0 → Sound s
-sound s e =
-    let f = none-fails (viewChecks s 1) tt e in
-    record {
-      h540 = eqb-true (length (s .hkroot)) 540 (not-false _ (f .0));
-      m2160 = eqb-true (length (s .mack)) 2160 (not-false _ (f .1 .0));
-      week-fits = ltb-false 4095 (s .week) (f .1 .1 .0);
-      subframe-fits = ltb-false 20159 (s .subframe) (f .1 .1 .1 .0);
-      all-small = not-false _ (f .1 .1 .1 .1 .0);
-    }
-
--- of such a one only the entry can be refused
+-- of a record that is not refused only the entry can be
 pub entry-refusal : (s : State) (p : Page) {q : ℕ} → Sound s → length (p .bytes) ≡ 5 → q ≡ refusal (entryChecks (p .satellite) (p .week) (p .time)) → q ≡ refusal (feedChecks s p)
 unfolding refusal
-entry-refusal s p d l e =
-    rw (eq-eqb (length (p .bytes)) 5 l, eq-eqb (length (s .hkroot)) 540 (d .h540), eq-eqb (length (s .mack)) 2160 (d .m2160), le-ltb 4095 (s .week) (d .week-fits), le-ltb 20159 (s .subframe) (d .subframe-fits), d .all-small)
-    e
+entry-refusal s p d l e = rw (eq-eqb (length (p .bytes)) 5 l) (e ∙ sym (sound-passes s d (entryChecks (p .satellite) (p .week) (p .time))))
 
 -- What is answered where a trace ends before an entry.
 module _ (n q : ℕ) where
@@ -91,48 +70,6 @@ pub entry-is : (trace : List ℕ) (k : ℕ) {w t : ℕ} → w ≡ getD trace (12
     → _≡_ {A = Page} (record { bytes = take 5 (drop (12 * k + 7) trace); satellite = getD trace (12 * k) 0; week = w; time = t }) (entryAt trace k)
 unfolding entryAt
 entry-is trace k e f = rw (e, f)
-
--- A sound state stays so.
-both : (a b : Bool) → (a && b) ≡ true → (a ≡ true) × (b ≡ true)
-both true b e = (refl, e)
-both false b e = let z : _≡_ {A = Bool} false true = e in (z, cc)
-
-small-set : (l : List ℕ) (i v : ℕ) → v ≤ 15 → small l ≡ true → small (set l i v) ≡ true
-unfolding small
-small-set [] i v h e = refl
-small-set (n ∷ l) zero v h e = rw (le-leb v 15 h) (both (leb n 15) (small l) e .1)
-small-set (n ∷ l) (suc i) v h e = let f = both (leb n 15) (small l) e in rw (f .0) (small-set l i v h (f .1))
-
-sound-changed : (s : State) (week subframe : ℕ) → Sound s → week ≤ 4095 → subframe ≤ 20159 → Sound (changed s week subframe)
-unfolding changed small
-sound-changed s week subframe d hw hs = go (eqb (s .week) week && eqb (s .subframe) subframe)
-  where
-    go : (b : Bool) → Sound (cond b s (record { week = week; subframe = subframe; counts = replicate 36 0; hkroot = s .hkroot; mack = s .mack }))
-    go true = d
-    go false = record { h540 = d .h540; m2160 = d .m2160; week-fits = hw; subframe-fits = hs; all-small = refl }
-
-sound-offered : (s : State) (bytes : List ℕ) (i w : ℕ) → Sound s → w < 15 → Sound (offered s bytes i w .state)
-unfolding offered used
-sound-offered s bytes i w d h = go (eqb w (getD (s .counts) i 0))
-  where
-    go : (b : Bool) → Sound (cond {A = Fed} b (used s bytes i w) (record { state = s; answer = nothing }) .state)
-    go true =
-        record {
-          h540 = simp length-set (d .h540);
-          m2160 = simp length-set (d .m2160);
-          week-fits = d .week-fits;
-          subframe-fits = d .subframe-fits;
-          all-small = small-set (s .counts) i (w + 1) (omega arith) (d .all-small);
-        }
-    go false = d
-
-sound-fed : (s : State) (p : Page) → Sound s → refusal (feedChecks s p) ≡ 0 → Sound (feed s p .state)
-sound-fed s p d z =
-    let f = none-fails (feedChecks s p) tt z in
-    let week : p .week ≤ 4095 = ltb-false 4095 (p .week) (f .1 .1 .1 .1 .1 .1 .1 .1 .0) in
-    let time : p .time ≤ 604799 = ltb-false 604799 (p .time) (f .1 .1 .1 .1 .1 .1 .1 .1 .1 .0) in
-    subst (λ (x : Fed). Sound (x .state)) (feed-admitted s p (sym z) refl refl refl)
-    (sound-offered (changed s (p .week) (subframeOf (p .time))) (p .bytes) (p .satellite - 1) (wordOf (p .time)) (sound-changed s (p .week) (subframeOf (p .time)) d week (omega arith)) (omega arith))
 
 -- Entries one by one.
 module _ (n : ℕ) (s : State) (p : Page) (ps : List Page) where
@@ -163,7 +100,7 @@ pub record Left (s₀ : State) (trace : List ℕ) (k : ℕ) (s : State) : Type 0
   pub fine : Sound s
   pub rest : feedEach k s (entriesFrom trace k (length trace / 12 - k)) ≡ feedEach 0 s₀ (entries trace)
 
-pub turn-first : (s : State) (trace : List ℕ) → refusal (viewChecks s 1) ≡ 0 → Left s trace 0 s
+pub turn-first : (s : State) (trace : List ℕ) → refusal (recordChecks s) ≡ 0 → Left s trace 0 s
 turn-first s trace z = let e : length trace / 12 - 0 ≡ length trace / 12 = omega arith in record { few = omega arith; first = sound s z; fine = sound s z; rest = rw e }
 
 -- the page of entry k, as the code cuts it out
@@ -217,7 +154,7 @@ module _ {s₀ s : State} {trace : List ℕ} {k : ℕ} (d : Left s₀ trace k s)
             is-gives Completes c = refl
 
         pub turn-sound : Sound (stateOf (e .week) (e .time / 30) cs hk mk)
-        turn-sound = subst (λ (x : Fed). Sound (x .state)) (sym (f .fed)) (sound-fed s (pageOf e (pagePart trace k)) (d .fine) turn-asks)
+        turn-sound = subst (λ (x : Fed). Sound (x .state)) (sym (f .fed)) (sound-fed s (pageOf e (pagePart trace k)) (d .fine))
 
         pub turn-goes-on : completesOf r ≡ false → Left s₀ trace (k + 1) (stateOf (e .week) (e .time / 30) cs hk mk)
         unfolding later
@@ -241,7 +178,7 @@ module _ (s : State) (trace : List ℕ) {q : ℕ} (e : q ≡ refusal (traceCheck
   all-refused ne = rw (← e, ne-eqb q 0 ne)
 
   module _ (z : q ≡ 0) where
-    pub all-asks : refusal (viewChecks s 1) ≡ 0
+    pub all-asks : refusal (recordChecks s) ≡ 0
     unfolding refusal
     all-asks = let f = none-fails (traceChecks s trace) tt (sym e ∙ z) in rw (f .0) at (sym e ∙ z)
 

@@ -10,7 +10,7 @@ use mathlib.Core.Bool.{Bool, true, false, cond, not, _&&_}
 use lib.ListN.{length, getD, take, drop, replicate, length-drop, getD-replicate}
 use lib.Seq.{length-take-le, getD-take, getD-drop, drop-drop, take-add}
 use lib.Dec.{leb, ltb, eqb}
-use borrow.Author.Tests.{le-leb, le-ltb, eq-eqb, ne-eqb, eqb-true, eqb-false, ltb-false, leb-true, leb-false, not-false}
+use borrow.Author.Tests.{le-leb, le-ltb, ne-eqb, eqb-true, eqb-false, ltb-false, leb-true, leb-false, not-false}
 use Rattle.layouts.specs.Answer.{Answer, refused, nothing, gives, shown, Check, _when_, refusal}
 use Rattle.layouts.proofs.Answers.{none-fails}
 use Rattle.subframes.specs.Subframe.{State, new, Page, subframeOf, wordOf, Fed, small, viewChecks, feedChecks, changed, offered, feed, view}
@@ -18,6 +18,7 @@ use Rattle.runs.specs.Runs.{goesOn, runFrom}
 use Rattle.subframes.specs.SubframeRecovery.{callChecks, isAdmitted, sameSubframe, before, grown, run, after, hasWord, noPage, Words, hkrootOf, mackOf, message, Built, ComesOut, Alike, Viewed, SubframesRecover}
 use Rattle.runs.proofs.Basics.{and-true, part-is}
 use Rattle.subframes.proofs.Pages.{feed-refused, feed-admitted}
+use Rattle.subframes.proofs.SubframeSound.{Sound, sound-passes}
 use Rattle.runs.proofs.Rising.{taken-chain, shorter, earliest, reaches, chosen-kept}
 use Rattle.runs.proofs.Runs.{goes-on, before-twice, run-before, run-from, kept-by-all}
 use Rattle.subframes.proofs.SubframeRun.{words, pageOf, words-few, words-up, Of, Core, Step, offered-step}
@@ -74,24 +75,16 @@ module _ (n : ℕ) (s : State) (r : List Page) (o : Of n s r) (some : 1 ≤ n) (
           mack-is = mack-message;
         }
 
--- A record that is not refused, whatever is asked.
-record Legal (s : State) : Type 0 where
-  h540 : length (s .hkroot) ≡ 540
-  m2160 : length (s .mack) ≡ 2160
-  week-few : s .week ≤ 4095
-  subframe-few : s .subframe ≤ 20159
-  is-small : small (s .counts) ≡ true
-
+-- What is refused at a record that is not.
 abbrev satelliteChecks : ℕ → List Check
 satelliteChecks n = 2 when ltb n 1 ∷ 2 when ltb 36 n ∷ []
 
-view-number : (s : State) → Legal s → (n : ℕ) → refusal (viewChecks s n) ≡ refusal (satelliteChecks n)
-unfolding refusal
-view-number s l n = rw (eq-eqb (length (s .hkroot)) 540 (l .h540), eq-eqb (length (s .mack)) 2160 (l .m2160), le-ltb 4095 (s .week) (l .week-few), le-ltb 20159 (s .subframe) (l .subframe-few), l .is-small)
+view-number : (s : State) → Sound s → (n : ℕ) → refusal (viewChecks s n) ≡ refusal (satelliteChecks n)
+view-number s l n = sound-passes s l (satelliteChecks n)
 
-feed-number : (s : State) → Legal s → (p : Page) → refusal (feedChecks s p) ≡ refusal (callChecks p)
+feed-number : (s : State) → Sound s → (p : Page) → refusal (feedChecks s p) ≡ refusal (callChecks p)
 unfolding refusal
-feed-number s l p = rw (eq-eqb (length (s .hkroot)) 540 (l .h540), eq-eqb (length (s .mack)) 2160 (l .m2160), le-ltb 4095 (s .week) (l .week-few), le-ltb 20159 (s .subframe) (l .subframe-few), l .is-small)
+feed-number s l p = ap (cond (not (eqb (length (p .bytes)) 5)) 1) (sound-passes s l (drop 1 (callChecks p)))
 
 -- what an admitted page is
 record Admitted (p : Page) : Type 0 where
@@ -136,7 +129,7 @@ eqb-top m l = go (ℕ-discrete m 15)
         below false e = e
         below true e = absurd (omega (arith, leb-true 15 m e, ne))
 
-module _ (week subframe : ℕ) (s : State) (r : List Page) (k : Core week subframe s r) (l : Legal s) where
+module _ (week subframe : ℕ) (s : State) (r : List Page) (k : Core week subframe s r) (l : Sound s) where
   core-view : (size n : ℕ) → view s size n ≡ viewOf r size n
   unfolding view
   core-view size n = rw (view-number s l n) (go (eqb (refusal (satelliteChecks n)) 0) refl)
@@ -229,19 +222,19 @@ changed-memory s week subframe = go (eqb (s .week) week && eqb (s .subframe) sub
     go true = (refl, refl)
     go false = (refl, refl)
 
-core-legal : (week subframe : ℕ) (s : State) (r : List Page) → Core week subframe s r → week ≤ 4095 → subframe ≤ 20159 → Legal s
-core-legal week subframe s r k w t = record { h540 = k .h540; m2160 = k .m2160; week-few = rw (k .week-is) w; subframe-few = rw (k .subframe-is) t; is-small = k .is-small }
+core-sound : (week subframe : ℕ) (s : State) (r : List Page) → Core week subframe s r → week ≤ 4095 → subframe ≤ 20159 → Sound s
+core-sound week subframe s r k w t = record { h540 = k .h540; m2160 = k .m2160; week-fits = rw (k .week-is) w; subframe-fits = rw (k .subframe-is) t; all-small = k .is-small }
 
 -- What holds between two calls: whatever comes next, the collector is at its run.
 record Holds (s : State) (r : List Page) : Type 0 where
-  legal : Legal s
+  sound : Sound s
   at-run : (p : Page) → Core (p .week) (subframeOf (p .time)) (changed s (p .week) (subframeOf (p .time))) (before r p)
 
 new-holds : (h m : List ℕ) → length h ≡ 540 → length m ≡ 2160 → Holds (new h m) []
 new-holds h m lh lm =
     let k : Core 0 0 (new h m) [] = fresh-core 0 0 h m lh lm in
     record {
-      legal = core-legal 0 0 (new h m) [] k (omega arith) (omega arith);
+      sound = core-sound 0 0 (new h m) [] k (omega arith) (omega arith);
       at-run = λ p. subst (λ (r : List Page). Core (p .week) (subframeOf (p .time)) (changed (new h m) (p .week) (subframeOf (p .time))) r) (none (eqb 0 (p .week) && eqb 0 (subframeOf (p .time)))) (changed-core 0 0 (new h m) [] k (p .week) (subframeOf (p .time)));
     }
   where
@@ -258,7 +251,7 @@ same-as-first x c d e =
 -- A call, at a run.
 module _ (s : State) (r : List Page) (w : Holds s r) (p : Page) where
   refused-is : isAdmitted p ≡ false → feed s p ≡ record { state = s; answer = refused (refusal (callChecks p)) }
-  refused-is e = sym (feed-refused s p (sym (feed-number s (w .legal) p)) (eqb-false (refusal (callChecks p)) 0 e))
+  refused-is e = sym (feed-refused s p (sym (feed-number s (w .sound) p)) (eqb-false (refusal (callChecks p)) 0 e))
 
   module _ (e : isAdmitted p ≡ true) where
     fine : Admitted p
@@ -268,7 +261,7 @@ module _ (s : State) (r : List Page) (w : Holds s r) (p : Page) where
     begun = changed s (p .week) (subframeOf (p .time))
 
     offered-is : feed s p ≡ offered begun (p .bytes) (p .satellite - 1) (wordOf (p .time))
-    offered-is = sym (feed-admitted s p refl (feed-number s (w .legal) p ∙ eqb-true (refusal (callChecks p)) 0 e) refl refl)
+    offered-is = sym (feed-admitted s p refl (feed-number s (w .sound) p ∙ eqb-true (refusal (callChecks p)) 0 e) refl refl)
 
     grown-is : grown r p ≡ before r p ++ (p ∷ [])
     grown-is = rw e
@@ -279,13 +272,13 @@ module _ (s : State) (r : List Page) (w : Holds s r) (p : Page) where
     fed-core : Core (p .week) (subframeOf (p .time)) (feed s p .state) (grown r p)
     fed-core = subst⁻¹ (λ (l : List Page). Core (p .week) (subframeOf (p .time)) (feed s p .state) l) grown-is (fed-step .core)
 
-    fed-legal : Legal (feed s p .state)
-    fed-legal = core-legal (p .week) (subframeOf (p .time)) (feed s p .state) (grown r p) fed-core (fine .in-weeks) (omega (arith, fine .in-week))
+    fed-sound : Sound (feed s p .state)
+    fed-sound = core-sound (p .week) (subframeOf (p .time)) (feed s p .state) (grown r p) fed-core (fine .in-weeks) (omega (arith, fine .in-week))
 
     fed-holds : Holds (feed s p .state) (grown r p)
     fed-holds =
         record {
-          legal = fed-legal;
+          sound = fed-sound;
           at-run = λ q.
               let on : goesOn isAdmitted sameSubframe (grown r p) q ≡ sameSubframe p q = ap (λ (l : List Page). goesOn isAdmitted sameSubframe l q) grown-is ∙ goes-on isAdmitted sameSubframe same-as-first r p q in
               subst⁻¹ (λ (b : Bool). Core (q .week) (subframeOf (q .time)) (changed (feed s p .state) (q .week) (subframeOf (q .time))) (cond b (grown r p) [])) on
@@ -313,8 +306,8 @@ same-run s t r q p a b e h =
     let g : grown r p ≡ grown q p = rw e (ap (λ (l : List Page). l ++ (p ∷ [])) h) in
     let ks = fed-core s r a p e in
     let kt = fed-core t q b p e in
-    let ls = fed-legal s r a p e in
-    let lt = fed-legal t q b p e in
+    let ls = fed-sound s r a p e in
+    let lt = fed-sound t q b p e in
     record {
       answer = fed-step s r a p e .answer
           ∙ ap (λ (l : List Page). cond (leb 15 (words (p .satellite) (l ++ (p ∷ []))) && not (leb 15 (words (p .satellite) l))) (gives (p .week ∷ 30 * subframeOf (p .time) ∷ [])) nothing) h
@@ -424,7 +417,7 @@ subframes-recover h m lh lm ps p =
       exactly-when = λ e. comes-out s (run ps) w p e;
       else-nothing = λ e ne. stayed-in (leb 15 (words (p .satellite) (before (run ps) p ++ (p ∷ [])))) (leb 15 (words (p .satellite) (before (run ps) p))) (feed s p .answer) (p .week ∷ 30 * subframeOf (p .time) ∷ []) (fed-step s (run ps) w p e .answer) ne;
       earliest = λ e z. built-then s (run ps) w p e z;
-      viewed = λ e n some few. core-viewed (p .week) (subframeOf (p .time)) (feed s p .state) (grown (run ps) p) (fed-core s (run ps) w p e) (fed-legal s (run ps) w p e) n some few;
+      viewed = λ e n some few. core-viewed (p .week) (subframeOf (p .time)) (feed s p .state) (grown (run ps) p) (fed-core s (run ps) w p e) (fed-sound s (run ps) w p e) n some few;
       until-changed = λ on n some few all. stays s (run ps) w p on n some few all;
       refused-call = refused-is s (run ps) w p;
     }

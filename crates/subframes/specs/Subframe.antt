@@ -38,17 +38,19 @@ unfoldable pub small : List ℕ → Bool
 small [] = true
 small (n ∷ ns) = leb n 15 && small ns
 
--- "week at most 4,095, subframe at most 20,159": what is refused of the lent bytes, the record and a satellite, in the order 1, 12, 2
-abbrev pub viewChecks : State → ℕ → List Check
-viewChecks s satellite =
+-- "week at most 4,095, subframe at most 20,159": what is refused of the lent bytes, 1, and of the record, 12
+abbrev pub recordChecks : State → List Check
+recordChecks s =
     1 when not (eqb (length (s .hkroot)) 540) ∷
     1 when not (eqb (length (s .mack)) 2160) ∷
     12 when ltb 4095 (s .week) ∷
     12 when ltb 20159 (s .subframe) ∷
     12 when not (small (s .counts)) ∷
-    2 when ltb satellite 1 ∷
-    2 when ltb 36 satellite ∷
     []
+
+-- then of a satellite, 2
+abbrev pub viewChecks : State → ℕ → List Check
+viewChecks s satellite = recordChecks s ++ (2 when ltb satellite 1 ∷ 2 when ltb 36 satellite ∷ [])
 
 -- and of a page: 1 before them, 3 and 4 after them
 abbrev pub feedChecks : State → Page → List Check

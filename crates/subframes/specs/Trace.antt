@@ -6,7 +6,7 @@ use mathlib.Core.Bool.{cond, not}
 use lib.ListN.{length, getD, take, drop}
 use lib.Dec.{eqb}
 use Rattle.layouts.specs.Answer.{Answer, refused, nothing, gives, Check, _when_, refusal}
-use Rattle.subframes.specs.Subframe.{State, Page, viewChecks, feed}
+use Rattle.subframes.specs.Subframe.{State, Page, recordChecks, feed}
 
 -- Entry k is the 12 bytes from byte 12 k: the satellite, two bytes of the week, four of the time of week, high byte first, and the page's five
 unfoldable pub entryAt : List ℕ → ℕ → Page
@@ -48,9 +48,9 @@ feedEach n s (p ∷ ps) =
     (feedEach (n + 1) (feed s p .state) ps)
     (record { state = feed s p .state; answer = feed s p .answer; consumed = n + 1 })
 
--- what is refused before the first entry is looked at: a trace that is not whole entries and other lent lengths, 1, then the record, 12, as a view of satellite 1 refuses them
+-- what is refused before the first entry is looked at: a trace that is not whole entries and other lent lengths, 1, then the record, 12
 abbrev pub traceChecks : State → List ℕ → List Check
-traceChecks s trace = 1 when not (eqb (length trace % 12) 0) ∷ viewChecks s 1
+traceChecks s trace = 1 when not (eqb (length trace % 12) 0) ∷ recordChecks s
 
 unfoldable pub feedAll : State → List ℕ → FedMany
 feedAll s trace =

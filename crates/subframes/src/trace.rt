@@ -10,7 +10,7 @@ ghost use mathlib.Core.List.{List};
 ghost use Prim.Native.Nat.{ℕ, _+_, _*_, _≤_, _<_};
 ghost use lib.ListN.{length, take, drop};
 ghost use Rattle.layouts.specs.Answer.{refusal as refusalOf};
-ghost use Rattle.subframes.specs.Subframe.{viewChecks};
+ghost use Rattle.subframes.specs.Subframe.{recordChecks};
 ghost use Rattle.subframes.specs.SubframePromises.{state, meaning-subframe};
 ghost use Rattle.subframes.specs.Trace.{entryAt, entries as entriesOf, feedEach, traceChecks};
 ghost use Rattle.subframes.specs.TracePromises.{outcome-all, FeedAll};
@@ -117,7 +117,7 @@ fn feed_entries(
     mack: &mut [u8],
     trace: &[u8],
 ) -> TraceFed
-    requires { ⌜ refusalOf (viewChecks (state collector (now hkroot) (now mack)) 1) ≡ 0 ⌝ }
+    requires { ⌜ refusalOf (recordChecks (state collector (now hkroot) (now mack))) ≡ 0 ⌝ }
     ensures { λ r. ⌜ outcome-all r (now (hkroot .exit)) (now (mack .exit)) ≡ feedEach 0 (state collector (now (hkroot .entry)) (now (mack .entry))) (entriesOf (now (trace .entry))) ⌝ }
 {
     let many = trace.len() / 12;

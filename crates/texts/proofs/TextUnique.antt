@@ -8,7 +8,7 @@ use Rattle.layouts.specs.Meaning.{meaning-number}
 use Rattle.layouts.specs.declared.answer.Number.{Number}
 use Rattle.layouts.specs.declared.answer.Number.the-variants.{Value, Refused as NoNumber}
 use Rattle.texts.specs.Arguments.{meaning-arguments, ReadDecimal, ReadArguments}
-use Rattle.texts.specs.Lines.{Part, Written, written, SubframeLine, DsmLine, TotalsLine, RefusedLine}
+use Rattle.texts.specs.Lines.{Written, SubframeLine, DsmLine, TotalsLine, RefusedLine}
 use Rattle.texts.specs.declared.arguments.Arguments.{Arguments}
 use Rattle.texts.specs.declared.arguments.Arguments.the-variants.{Refused, Given}
 

@@ -1,14 +1,14 @@
 -- Laws of lines in a buffer.
 -- Assumes nothing.
 use mathlib.Core.Path.{_≡_, refl, sym, ap, _∙_, subst}
-use mathlib.Core.List.{List, [], _∷_, _++_, append-assoc, append-nil}
+use mathlib.Core.List.{List, [], _∷_, _++_, append-assoc}
 use Prim.Native.Nat.{ℕ, _+_, _/_, _%_, _≤_, _<_}
 use native.Mathlib.Omega.{arith}
 use native.Mathlib.Numerals.{add-one}
-use lib.ListN.{length, getD, take, drop, set, length-append, length-drop, length-set}
+use lib.ListN.{length, take, drop, set, length-append, length-drop, length-set}
 use lib.Seq.{append-snoc, take-at, drop-append-add, drop-drop, set-split, length-take-le}
 use Rattle.texts.specs.Decimal.{digits, most}
-use Rattle.texts.specs.Lines.{Part, _of_, bytes, line, put, Written, written, Counts}
+use Rattle.texts.specs.Lines.{Part, bytes, line, put, Written, written, Counts}
 use Rattle.texts.specs.LinesInner.{Begun}
 use Rattle.texts.proofs.Decimals.{digits-one, digits-ten, digits-few}
 

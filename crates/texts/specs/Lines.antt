@@ -1,7 +1,7 @@
 -- The lines of a page replay: document 01, "Page replay".
 -- Assumes nothing.
 use Prim.Native.Nat.{ℕ, _+_, _≤_}
-use Prim.Native.Char.{Char, code}
+use Prim.Native.Char.{code}
 use Prim.Native.String.{String}
 use Prim.Native.String.{[] as end, _∷_ as _then_}
 use mathlib.Core.Path.{_≡_}

@@ -1,8 +1,8 @@
 -- `tell::copy`: before each turn the first `i` bytes are copied.
 -- Assumes nothing.
 use mathlib.Core.Path.{_≡_, refl, _∙_}
-use mathlib.Core.List.{List, _++_}
-use Prim.Native.Nat.{ℕ, _+_, _≤_, _-_}
+use mathlib.Core.List.{_++_}
+use Prim.Native.Nat.{_+_, _≤_, _-_}
 use native.Mathlib.Omega.{arith}
 use lib.ListN.{length, length-set, take, drop}
 use Rattle.layouts.proofs.Copies.{copy-more}

@@ -1,6 +1,6 @@
 -- `arguments::value`: before each turn the number of the first `i` digits is read.
 -- Assumes nothing.
-use mathlib.Core.Path.{_≡_, refl, sym, ap, _∙_}
+use mathlib.Core.Path.{_≡_, ap, _∙_}
 use mathlib.Core.List.{List}
 use Prim.Native.Nat.{ℕ, _≤_, _-_, min}
 use lib.ListN.{length, take}

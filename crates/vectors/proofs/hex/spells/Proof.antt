@@ -7,7 +7,7 @@ use lib.ListN.{length, getD}
 use borrow.Author.Needs.{needs}
 use borrow.Author.Count.{below-more}
 use native.Mathlib.Omega.{arith}
-use Rattle.vectors.specs.Hex.{byteOf, Spells}
+use Rattle.vectors.specs.Hex.{byteOf}
 use Rattle.vectors.proofs.hex.spells.Statement.{statement}
 use Rattle.vectors.proofs.hex.spells.Tie as tie
 

@@ -2,8 +2,8 @@
 -- Assumes nothing.
 use Rattle.collectors.proofs.PageSteps.{dsm-is}
 use borrow.Author.Needs.{needs}
-use Rattle.collectors.proofs.replay.dsm_done.Statement.{statement}
-use Rattle.collectors.proofs.replay.dsm_done.Tie as tie
+use Rattle.collectors.proofs.page_step.dsm_done.Statement.{statement}
+use Rattle.collectors.proofs.page_step.dsm_done.Tie as tie
 
 enum-told : tie.Need-enum-told
 enum-told c = search needs

@@ -4,8 +4,8 @@ use Rattle.subframes.specs.SubframePromises.{outcome}
 use Rattle.collectors.specs.ReplayPromises.{state}
 use Rattle.collectors.proofs.PageSteps.{fed-is}
 use borrow.Author.Needs.{needs}
-use Rattle.collectors.proofs.replay.feed_page.Statement.{statement}
-use Rattle.collectors.proofs.replay.feed_page.Tie as tie
+use Rattle.collectors.proofs.page_step.feed_page.Statement.{statement}
+use Rattle.collectors.proofs.page_step.feed_page.Tie as tie
 
 is-used-requires : tie.Need-is-used-requires
 is-used-requires c κs = search needs

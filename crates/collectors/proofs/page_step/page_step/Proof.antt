@@ -4,8 +4,8 @@ use Rattle.collectors.specs.ReplayInner.{ran}
 use Rattle.collectors.specs.ReplayPromises.{state}
 use Rattle.collectors.proofs.PageSteps.{step-skipped, step-counted}
 use borrow.Author.Needs.{needs}
-use Rattle.collectors.proofs.replay.page_step.Statement.{statement}
-use Rattle.collectors.proofs.replay.page_step.Tie as tie
+use Rattle.collectors.proofs.page_step.page_step.Statement.{statement}
+use Rattle.collectors.proofs.page_step.page_step.Tie as tie
 
 counts-requires : tie.Need-counts-requires
 counts-requires c κs = search needs

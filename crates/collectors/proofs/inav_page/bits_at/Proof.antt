@@ -2,8 +2,8 @@
 -- Assumes nothing.
 use Rattle.collectors.proofs.PageSteps.{bits-given, bits-fit, bits-refused}
 use borrow.Author.Needs.{needs}
-use Rattle.collectors.proofs.replay.bits_at.Statement.{statement}
-use Rattle.collectors.proofs.replay.bits_at.Tie as tie
+use Rattle.collectors.proofs.inav_page.bits_at.Statement.{statement}
+use Rattle.collectors.proofs.inav_page.bits_at.Tie as tie
 
 read-bits-requires : tie.Need-read-bits-requires
 read-bits-requires c κs = search needs

@@ -2,8 +2,8 @@
 -- Assumes nothing.
 use Rattle.collectors.proofs.PageSteps.{later-in-week, later-last-week, later-next-week}
 use borrow.Author.Needs.{needs}
-use Rattle.collectors.proofs.replay.later.Statement.{statement}
-use Rattle.collectors.proofs.replay.later.Tie as tie
+use Rattle.collectors.proofs.inav_page.later.Statement.{statement}
+use Rattle.collectors.proofs.inav_page.later.Tie as tie
 
 add-t4 : tie.Need-add-t4
 add-t4 c = search needs

@@ -3,8 +3,8 @@
 use Rattle.collectors.specs.ReplayPromises.{state}
 use Rattle.collectors.proofs.PageSteps.{skipped-is}
 use borrow.Author.Needs.{needs}
-use Rattle.collectors.proofs.replay.skip.Statement.{statement}
-use Rattle.collectors.proofs.replay.skip.Tie as tie
+use Rattle.collectors.proofs.page_step.skip.Statement.{statement}
+use Rattle.collectors.proofs.page_step.skip.Tie as tie
 
 later-requires : tie.Need-later-requires
 later-requires c κs = search needs

@@ -2,8 +2,8 @@
 -- Assumes nothing.
 use Rattle.collectors.specs.Replay.{fedHkroot}
 use borrow.Author.Needs.{needs}
-use Rattle.collectors.proofs.replay.feed_message.Statement.{statement}
-use Rattle.collectors.proofs.replay.feed_message.Tie as tie
+use Rattle.collectors.proofs.page_step.feed_message.Statement.{statement}
+use Rattle.collectors.proofs.page_step.feed_message.Tie as tie
 
 array-read-feed : tie.Need-array-read-feed
 array-read-feed c = search needs

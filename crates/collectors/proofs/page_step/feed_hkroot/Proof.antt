@@ -2,8 +2,8 @@
 -- Assumes nothing.
 use Rattle.collectors.proofs.PageSteps.{hkroot-fed}
 use borrow.Author.Needs.{needs}
-use Rattle.collectors.proofs.replay.feed_hkroot.Statement.{statement}
-use Rattle.collectors.proofs.replay.feed_hkroot.Tie as tie
+use Rattle.collectors.proofs.page_step.feed_hkroot.Statement.{statement}
+use Rattle.collectors.proofs.page_step.feed_hkroot.Tie as tie
 
 hkroot-message-requires : tie.Need-hkroot-message-requires
 hkroot-message-requires c κs = search needs

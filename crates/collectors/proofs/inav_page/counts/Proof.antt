@@ -2,8 +2,8 @@
 -- Assumes nothing.
 use Rattle.collectors.proofs.PageSteps.{even-other, odd-other, page-counts}
 use borrow.Author.Needs.{needs}
-use Rattle.collectors.proofs.replay.counts.Statement.{statement}
-use Rattle.collectors.proofs.replay.counts.Tie as tie
+use Rattle.collectors.proofs.inav_page.counts.Statement.{statement}
+use Rattle.collectors.proofs.inav_page.counts.Tie as tie
 
 bits-at-requires : tie.Need-bits-at-requires
 bits-at-requires c κs = search needs

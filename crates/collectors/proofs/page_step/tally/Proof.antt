@@ -7,8 +7,8 @@ use Rattle.collectors.specs.ReplayPromises.{state}
 use native.Mathlib.Omega.{arith}
 use Rattle.collectors.proofs.PageSteps.{counted-is, one-few, subframes-few, dsms-few}
 use borrow.Author.Needs.{needs}
-use Rattle.collectors.proofs.replay.tally.Statement.{statement}
-use Rattle.collectors.proofs.replay.tally.Tie as tie
+use Rattle.collectors.proofs.page_step.tally.Statement.{statement}
+use Rattle.collectors.proofs.page_step.tally.Tie as tie
 
 subframe-done-requires : tie.Need-subframe-done-requires
 subframe-done-requires c κs = search needs

@@ -4,8 +4,8 @@ use native.Mathlib.Omega.{arith}
 use Rattle.collectors.proofs.Taken.{used-other-week, used-other-subframe, used-same}
 use Rattle.subframes.specs.SubframePromises.{state}
 use borrow.Author.Needs.{needs}
-use Rattle.collectors.proofs.replay.is_used.Statement.{statement}
-use Rattle.collectors.proofs.replay.is_used.Tie as tie
+use Rattle.collectors.proofs.page_step.is_used.Statement.{statement}
+use Rattle.collectors.proofs.page_step.is_used.Tie as tie
 
 cast-word : tie.Need-cast-word
 cast-word c = search needs

@@ -2,8 +2,8 @@
 -- Assumes nothing.
 use Rattle.collectors.proofs.PageSteps.{osnma-is}
 use borrow.Author.Needs.{needs}
-use Rattle.collectors.proofs.replay.osnma.Statement.{statement}
-use Rattle.collectors.proofs.replay.osnma.Tie as tie
+use Rattle.collectors.proofs.inav_page.osnma.Statement.{statement}
+use Rattle.collectors.proofs.inav_page.osnma.Tie as tie
 
 bits-at-requires : tie.Need-bits-at-requires
 bits-at-requires c κs = search needs

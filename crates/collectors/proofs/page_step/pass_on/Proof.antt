@@ -2,8 +2,8 @@
 -- Assumes nothing.
 use Rattle.collectors.proofs.PageSteps.{passed-refused, passed-nothing, passed-hkroot}
 use borrow.Author.Needs.{needs}
-use Rattle.collectors.proofs.replay.pass_on.Statement.{statement}
-use Rattle.collectors.proofs.replay.pass_on.Tie as tie
+use Rattle.collectors.proofs.page_step.pass_on.Statement.{statement}
+use Rattle.collectors.proofs.page_step.pass_on.Tie as tie
 
 enum-told : tie.Need-enum-told
 enum-told c = search needs
