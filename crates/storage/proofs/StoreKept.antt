@@ -9,7 +9,7 @@ use lib.ListN.{length, getD, take, drop}
 use lib.Dec.{ltb, eqb}
 use borrow.Author.Tests.{eq-eqb, eqb-true, eqb-false, ltb-true, ltb-false, not-true, not-false}
 use Rattle.layouts.specs.Answer.{gives, refusal}
-use Rattle.storage.specs.Store.{Storage, State, Call, all, first, entry, isTime, hasTime, askChecks, nextPlace, moves, placeFor, numberFor, placeOf, numberOf, put, stored, store, reached, firstOf, found, get}
+use Rattle.storage.specs.Store.{Storage, State, Call, first, entry, isTime, hasTime, askChecks, nextPlace, moves, placeFor, numberFor, placeOf, numberOf, put, stored, store, reached, firstOf, found, get}
 use Rattle.storage.specs.StoreKeeps.{newStore, after, bytesAt, isStored, empties, lasts, Keeps, StoreKeeps, StoreFinds}
 use Rattle.storage.proofs.Bytes.{put-long, put-before, put-behind, part-put, part-before, part-behind}
 use Rattle.storage.proofs.Searches.{and-left, and-right, and-both, first-is, first-before}

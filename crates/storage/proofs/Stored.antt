@@ -7,10 +7,10 @@ use mathlib.Core.List.{List, [], _∷_}
 use mathlib.Core.Bool.{Bool, true, false, cond, not, _&&_}
 use lib.ListN.{length, getD}
 use lib.Dec.{eqb}
-use borrow.Author.Tests.{le-ltb, lt-ltb, eq-eqb, ne-eqb, eqb-true, eqb-false, ltb-false, not-true, not-false}
+use borrow.Author.Tests.{le-ltb, lt-ltb, eq-eqb, ne-eqb, eqb-true, eqb-false, ltb-false, not-false}
 use Rattle.layouts.specs.Answer.{Answer, refused, nothing, gives, refusal}
-use Rattle.storage.specs.declared.mack_storage.Admitted.{Admitted}
-use Rattle.storage.specs.declared.mack_storage.Admitted.the-variants.{Refused as NotAdmitted, At}
+use Rattle.storage.specs.declared.places.Admitted.{Admitted}
+use Rattle.storage.specs.declared.places.Admitted.the-variants.{Refused as NotAdmitted, At}
 use Rattle.storage.specs.StoreInner.{Admits, AdmitsAt, fullAt, movesAt}
 use Rattle.layouts.proofs.Answers.{none-fails, stopped, went-on, refused-with, given-with}
 use Rattle.storage.specs.Store.{Storage, State, Asked, Call, Outcome, first, entry, legalPlace, legal, isTime, hasTime, timeChecks, askChecks, full, statusChecks, entryChecks, storeChecks, nextPlace, moves, placeFor, numberFor, placeOf, numberOf, entered, put, stored, store, reached, firstOf, foundAmong, found, get}

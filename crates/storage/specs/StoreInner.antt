@@ -1,4 +1,4 @@
--- What private functions of `mack_storage` need and do. No promise of a public function cites this file.
+-- What inner functions of the store need and do. No promise of a public function cites this file.
 -- Assumes nothing.
 use Prim.Native.Nat.{ℕ, _*_, _≤_}
 use mathlib.Core.Path.{_≡_}
@@ -7,9 +7,9 @@ use lib.Dec.{eqb}
 use lib.ListN.{length}
 use Rattle.storage.specs.Store.{Storage, Asked, isTime, statusChecks, entryChecks, nextPlace, placeFor, numberFor}
 use Rattle.layouts.specs.Answer.{refusal}
-use Rattle.storage.specs.declared.mack_storage.Asked.{Asked as AskedFor}
-use Rattle.storage.specs.declared.mack_storage.Admitted.{Admitted}
-use Rattle.storage.specs.declared.mack_storage.Admitted.the-variants.{Refused as NotAdmitted, At}
+use Rattle.storage.specs.declared.places.Asked.{Asked as AskedFor}
+use Rattle.storage.specs.declared.places.Admitted.{Admitted}
+use Rattle.storage.specs.declared.places.Admitted.the-variants.{Refused as NotAdmitted, At}
 
 -- the lists of a store have the lengths of so many messages and times
 pub record Fits (messages times : ℕ) (o : Storage) : Type 0 where

@@ -7,7 +7,7 @@ use mathlib.Core.Path.{_≡_}
 use lib.ListN.{length, getD, take, drop, replicate}
 use lib.Dec.{eqb}
 use Rattle.layouts.specs.Answer.{nothing, gives, refusal}
-use Rattle.storage.specs.Store.{Storage, State, newStorage, Asked, Call, entry, legal, hasTime, storeChecks, nextPlace, moves, placeOf, numberOf, store, reached, firstOf, get}
+use Rattle.storage.specs.Store.{State, newStorage, Call, entry, legal, hasTime, storeChecks, nextPlace, moves, placeOf, numberOf, store, reached, firstOf, get}
 
 -- a new store over that memory, and the state after calls, the oldest first; refused ones may be among them
 abbrev pub newStore : ℕ → ℕ → List ℕ → State

@@ -1,4 +1,4 @@
--- `mack_storage::lowest`: before each turn what is left gives the answer.
+-- `places::lowest`: before each turn what is left gives the answer.
 -- Assumes nothing.
 use mathlib.Core.Path.{_≡_}
 use Prim.Native.Nat.{_≤_, _-_}
@@ -7,8 +7,8 @@ use borrow.Author.Needs.{needs}
 use Rattle.storage.specs.Store.{first}
 use Rattle.storage.proofs.Searches.{first-start}
 use Rattle.storage.proofs.StoreRecord.{timeIs, time-here, time-later, time-nowhere}
-use Rattle.storage.proofs.mack_storage.lowest.Statement.{statement}
-use Rattle.storage.proofs.mack_storage.lowest.Tie as tie
+use Rattle.storage.proofs.places.lowest.Statement.{statement}
+use Rattle.storage.proofs.places.lowest.Tie as tie
 
 abbrev Inv-loop : tie.InvT-loop
 Inv-loop timed weeks tows times week time p₀ p = (p ≤ times) × (first (timeIs timed weeks tows week time) (times - p) p ≡ first (timeIs timed weeks tows week time) times 0)

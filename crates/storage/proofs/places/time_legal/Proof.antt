@@ -1,8 +1,8 @@
--- `mack_storage::time_legal`: each part of the definition.
+-- `places::time_legal`: each part of the definition.
 -- Assumes nothing.
 use Rattle.storage.proofs.StoreRecord.{count-high, untimed-count, week-off, week-on}
-use Rattle.storage.proofs.mack_storage.time_legal.Statement.{statement}
-use Rattle.storage.proofs.mack_storage.time_legal.Tie as tie
+use Rattle.storage.proofs.places.time_legal.Statement.{statement}
+use Rattle.storage.proofs.places.time_legal.Tie as tie
 
 returns : tie.Need-returns
 returns c = search count-high

@@ -1,4 +1,4 @@
--- `mack_storage::legal`: before each turn the first `p` places are in range.
+-- `places::legal`: before each turn the first `p` places are in range.
 -- Assumes nothing.
 use mathlib.Core.Path.{_≡_}
 use Prim.Native.Nat.{_≤_, _-_}
@@ -8,8 +8,8 @@ use mathlib.Core.Bool.{true}
 use Rattle.storage.specs.Store.{Storage, all, legalPlace}
 use Rattle.storage.proofs.Searches.{all-none}
 use Rattle.storage.proofs.StoreRecord.{room, time-count, current-off, place-time-off, place-entries-off, place-on, places-end}
-use Rattle.storage.proofs.mack_storage.legal.Statement.{statement}
-use Rattle.storage.proofs.mack_storage.legal.Tie as tie
+use Rattle.storage.proofs.places.legal.Statement.{statement}
+use Rattle.storage.proofs.places.legal.Tie as tie
 
 abbrev Inv-loop : tie.InvT-loop
 Inv-loop current timed weeks tows counts satellites statuses messages times p₀ p = (p ≤ times) × (all (legalPlace messages (record { current = current; timed = timed; weeks = weeks; tows = tows; counts = counts; satellites = satellites; statuses = statuses })) p ≡ true)

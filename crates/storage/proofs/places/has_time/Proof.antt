@@ -1,8 +1,8 @@
--- `mack_storage::has_time`: each part of the definition.
+-- `places::has_time`: each part of the definition.
 -- Assumes nothing.
 use Rattle.storage.proofs.StoreRecord.{time-none, time-week, time-tow}
-use Rattle.storage.proofs.mack_storage.has_time.Statement.{statement}
-use Rattle.storage.proofs.mack_storage.has_time.Tie as tie
+use Rattle.storage.proofs.places.has_time.Statement.{statement}
+use Rattle.storage.proofs.places.has_time.Tie as tie
 
 returns : tie.Need-returns
 returns c = search time-none

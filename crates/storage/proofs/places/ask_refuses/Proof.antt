@@ -1,11 +1,11 @@
--- `mack_storage::ask_refuses`: the record, then what is asked.
+-- `places::ask_refuses`: the record, then what is asked.
 -- Assumes nothing.
 use Rattle.storage.proofs.Stored.{record-off, record-on}
 use Rattle.storage.specs.Store.{Storage, Asked}
 use Rattle.storage.specs.StoreInner.{askedOf}
 use borrow.Author.Needs.{needs}
-use Rattle.storage.proofs.mack_storage.ask_refuses.Statement.{statement}
-use Rattle.storage.proofs.mack_storage.ask_refuses.Tie as tie
+use Rattle.storage.proofs.places.ask_refuses.Statement.{statement}
+use Rattle.storage.proofs.places.ask_refuses.Tie as tie
 
 legal-requires : tie.Need-legal-requires
 legal-requires c κs = search needs

@@ -1,8 +1,8 @@
--- `mack_storage::status_refuses`: the status, then a full place.
+-- `places::status_refuses`: the status, then a full place.
 -- Assumes nothing.
 use Rattle.storage.proofs.Stored.{status-high, status-full, status-room, status-other}
-use Rattle.storage.proofs.mack_storage.status_refuses.Statement.{statement}
-use Rattle.storage.proofs.mack_storage.status_refuses.Tie as tie
+use Rattle.storage.proofs.places.status_refuses.Statement.{statement}
+use Rattle.storage.proofs.places.status_refuses.Tie as tie
 
 returns : tie.Need-returns
 returns c = search status-high

@@ -1,4 +1,4 @@
--- `mack_storage::search`: the refusals, then the place that asking reaches.
+-- `places::search`: the refusals, then the place that asking reaches.
 -- Assumes nothing.
 use Rattle.storage.proofs.StoreRecord.{room, legal-at, place-few}
 use Rattle.storage.proofs.Stored.{ask-legal, reaches, get-refused, get-nowhere, get-there}
@@ -6,8 +6,8 @@ use Rattle.storage.specs.Store.{Storage, Asked}
 use Rattle.storage.specs.StoreInner.{askedOf}
 use native.Mathlib.Omega.{arith}
 use borrow.Author.Needs.{needs}
-use Rattle.storage.proofs.mack_storage.search.Statement.{statement}
-use Rattle.storage.proofs.mack_storage.search.Tie as tie
+use Rattle.storage.proofs.places.search.Statement.{statement}
+use Rattle.storage.proofs.places.search.Tie as tie
 
 ask-refuses-requires : tie.Need-ask-refuses-requires
 ask-refuses-requires c κs = search needs

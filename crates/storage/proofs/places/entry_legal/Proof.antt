@@ -1,8 +1,8 @@
--- `mack_storage::entry_legal`: each part of the definition.
+-- `places::entry_legal`: each part of the definition.
 -- Assumes nothing.
 use Rattle.storage.proofs.StoreRecord.{entry-low, entry-high, entry-status}
-use Rattle.storage.proofs.mack_storage.entry_legal.Statement.{statement}
-use Rattle.storage.proofs.mack_storage.entry_legal.Tie as tie
+use Rattle.storage.proofs.places.entry_legal.Statement.{statement}
+use Rattle.storage.proofs.places.entry_legal.Tie as tie
 
 returns : tie.Need-returns
 returns c = search entry-low

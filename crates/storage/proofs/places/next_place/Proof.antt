@@ -1,9 +1,9 @@
--- `mack_storage::next_place`: the last place is followed by place 0.
+-- `places::next_place`: the last place is followed by place 0.
 -- Assumes nothing.
 use Rattle.storage.proofs.StoreRecord.{next-last, next-other}
 use borrow.Author.Needs.{needs}
-use Rattle.storage.proofs.mack_storage.next_place.Statement.{statement}
-use Rattle.storage.proofs.mack_storage.next_place.Tie as tie
+use Rattle.storage.proofs.places.next_place.Statement.{statement}
+use Rattle.storage.proofs.places.next_place.Tie as tie
 
 add-if1 : tie.Need-add-if1
 add-if1 c = search needs

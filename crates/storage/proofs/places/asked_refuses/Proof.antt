@@ -1,8 +1,8 @@
--- `mack_storage::asked_refuses`: each check, in its order.
+-- `places::asked_refuses`: each check, in its order.
 -- Assumes nothing.
 use Rattle.storage.proofs.Stored.{ask-low, ask-high, ask-week, ask-time, ask-fine}
-use Rattle.storage.proofs.mack_storage.asked_refuses.Statement.{statement}
-use Rattle.storage.proofs.mack_storage.asked_refuses.Tie as tie
+use Rattle.storage.proofs.places.asked_refuses.Statement.{statement}
+use Rattle.storage.proofs.places.asked_refuses.Tie as tie
 
 returns : tie.Need-returns
 returns c = search ask-low

@@ -1,9 +1,9 @@
--- `mack_storage::find`: nothing, or the first message of the satellite.
+-- `places::find`: nothing, or the first message of the satellite.
 -- Assumes nothing.
 use Rattle.storage.proofs.Stored.{find-none, find-at}
 use borrow.Author.Needs.{needs}
-use Rattle.storage.proofs.mack_storage.find.Statement.{statement}
-use Rattle.storage.proofs.mack_storage.find.Tie as tie
+use Rattle.storage.proofs.places.find.Statement.{statement}
+use Rattle.storage.proofs.places.find.Tie as tie
 
 first-of-requires : tie.Need-first-of-requires
 first-of-requires c κs = search needs

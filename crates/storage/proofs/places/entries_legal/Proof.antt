@@ -1,4 +1,4 @@
--- `mack_storage::entries_legal`: before each turn the first `i` messages are in range.
+-- `places::entries_legal`: before each turn the first `i` messages are in range.
 -- Assumes nothing.
 use mathlib.Core.Path.{_≡_}
 use mathlib.Core.Bool.{true}
@@ -8,8 +8,8 @@ use borrow.Author.Needs.{needs}
 use Rattle.storage.specs.Store.{all}
 use Rattle.storage.proofs.Searches.{all-none}
 use Rattle.storage.proofs.StoreRecord.{legalAt, entries-stop, entries-go, entries-end}
-use Rattle.storage.proofs.mack_storage.entries_legal.Statement.{statement}
-use Rattle.storage.proofs.mack_storage.entries_legal.Tie as tie
+use Rattle.storage.proofs.places.entries_legal.Statement.{statement}
+use Rattle.storage.proofs.places.entries_legal.Tie as tie
 
 abbrev Inv-loop : tie.InvT-loop
 Inv-loop satellites statuses at many i₀ i = (i ≤ many) × (all (legalAt satellites statuses at) i ≡ true)

@@ -1,4 +1,4 @@
--- `mack_storage::first_of`: before each turn what is left gives the answer.
+-- `places::first_of`: before each turn what is left gives the answer.
 -- Assumes nothing.
 use mathlib.Core.Path.{_≡_}
 use Prim.Native.Nat.{_≤_, _-_}
@@ -7,8 +7,8 @@ use borrow.Author.Needs.{needs}
 use Rattle.storage.specs.Store.{first}
 use Rattle.storage.proofs.Searches.{first-start}
 use Rattle.storage.proofs.StoreRecord.{sentBy, sent-here, sent-later, sent-none}
-use Rattle.storage.proofs.mack_storage.first_of.Statement.{statement}
-use Rattle.storage.proofs.mack_storage.first_of.Tie as tie
+use Rattle.storage.proofs.places.first_of.Statement.{statement}
+use Rattle.storage.proofs.places.first_of.Tie as tie
 
 abbrev Inv-loop : tie.InvT-loop
 Inv-loop satellites at many satellite j₀ j = (j ≤ many) × (first (sentBy satellites at satellite) (many - j) j ≡ first (sentBy satellites at satellite) many 0)
