@@ -2,6 +2,7 @@
 -- Assumes nothing.
 use Prim.Native.Nat.{ℕ, _+_, _-_, _*_, _≤_, _<_}
 use native.Mathlib.Nat.{mul-suc, mul-le-mul-left}
+use native.Mathlib.Numerals.{add-one}
 use native.Mathlib.Omega.{arith}
 use mathlib.Core.Path.{_≡_, refl, sym, _∙_}
 use mathlib.Core.List.{List}
@@ -46,21 +47,25 @@ module _ (messages : ℕ) (timed : Bool) (week tow count : ℕ) where
       unfolding legalTime
       week-on g = rw (le-leb count messages h, not-false timed e, le-leb week 4095 g)
 
--- The messages of a place: before each turn of the loop the first i are in range.
+module _ (a b : Bool) where
+  pub left-fails : not a ≡ true → false ≡ (a && b)
+  left-fails e = rw (not-true a e)
+
+  pub left-holds : not a ≡ false → b ≡ (a && b)
+  left-holds e = rw (not-false a e)
+
+-- The messages of a place: before each turn of the loop it is known whether the first i are in range.
 abbrev pub legalAt : List ℕ → List ℕ → ℕ → ℕ → Bool
 legalAt satellites statuses at j = legalEntry (getD satellites (at + j) 0) (getD statuses (at + j) 0)
 
-module _ (satellites statuses : List ℕ) (at i n : ℕ) (e : all (legalAt satellites statuses at) i ≡ true) where
-  pub entries-stop : i < n → {b : Bool} → b ≡ legalAt satellites statuses at i → not b ≡ true → false ≡ legalEntries satellites statuses at n
-  unfolding legalEntries
-  entries-stop h q g = all-not (legalAt satellites statuses at) i n h e (sym q ∙ not-true _ g)
+module _ (satellites statuses : List ℕ) (at i n : ℕ) {g : Bool} (e : g ≡ all (legalAt satellites statuses at) i) where
+  pub entries-more : {b r : Bool} → b ≡ legalAt satellites statuses at i → r ≡ (g && b) → r ≡ all (legalAt satellites statuses at) (i + 1)
+  unfolding all
+  entries-more q h = rw (add-one i, ← e, ← q) h
 
-  pub entries-go : {b : Bool} → b ≡ legalAt satellites statuses at i → not b ≡ false → all (legalAt satellites statuses at) (i + 1) ≡ true
-  entries-go q g = all-more (legalAt satellites statuses at) i e (sym q ∙ not-false _ g)
-
-  pub entries-end : n ≤ i → i ≤ n → true ≡ legalEntries satellites statuses at n
+  pub entries-end : n ≤ i → i ≤ n → g ≡ legalEntries satellites statuses at n
   unfolding legalEntries
-  entries-end h g = all-done (legalAt satellites statuses at) i n h g e
+  entries-end h k = let same : i ≡ n = omega arith in rw same at e
 
 -- A place's time.
 module _ (timed : Bool) (week tow w t : ℕ) where

@@ -38,20 +38,28 @@ fn entry_legal(satellite: u8, status: u8) -> bool
     status <= 3
 }
 
-// `many` messages from number `at` on are in range.
+fn both(a: bool, b: bool) -> bool
+    ensures { λ r. ⌜ r ≡ (a && b) ⌝ }
+{
+    if !a {
+        return false;
+    }
+    b
+}
+
+// `many` messages from number `at` on are in range: a loop to its end, which the compiler makes one over sixteen messages at a time.
 fn entries_legal<'a>(satellites: &'a [u8], statuses: &'a [u8], at: usize, many: usize) -> bool
     requires { ⌜ (at + many ≤ length (now satellites)) × (at + many ≤ length (now statuses)) ⌝ }
     ensures { λ r. ⌜ r ≡ legalEntries (now (satellites .entry)) (now (statuses .entry)) at many ⌝ }
 {
+    let mut good = true;
     let mut i = 0;
     while i < many {
         let n = at + i;
-        if !entry_legal(satellites[n], statuses[n]) {
-            return false;
-        }
+        good = both(good, entry_legal(satellites[n], statuses[n]));
         i += 1;
     }
-    true
+    good
 }
 
 // A place's count and time are in range; a place without a time has no message.

@@ -1,24 +1,23 @@
--- `places::entries_legal`: before each turn the first `i` messages are in range.
+-- `places::entries_legal`: before each turn it is known whether the first `i` messages are in range.
 -- Assumes nothing.
-use mathlib.Core.Path.{_≡_}
-use mathlib.Core.Bool.{true}
+use mathlib.Core.Path.{_≡_, sym}
 use Prim.Native.Nat.{_≤_, _-_}
 use native.Mathlib.Omega.{arith}
 use borrow.Author.Needs.{needs}
 use Rattle.storage.specs.Store.{all}
 use Rattle.storage.proofs.Searches.{all-none}
-use Rattle.storage.proofs.StoreRecord.{legalAt, entries-stop, entries-go, entries-end}
+use Rattle.storage.proofs.StoreRecord.{legalAt, entries-more, entries-end}
 use Rattle.storage.proofs.places.entries_legal.Statement.{statement}
 use Rattle.storage.proofs.places.entries_legal.Tie as tie
 
 abbrev Inv-loop : tie.InvT-loop
-Inv-loop satellites statuses at many i₀ i = (i ≤ many) × (all (legalAt satellites statuses at) i ≡ true)
+Inv-loop satellites statuses at many good₀ i₀ good i = (i ≤ many) × (good ≡ all (legalAt satellites statuses at) i)
 
 abbrev μ-loop : tie.MeasureT-loop
-μ-loop satellites statuses at many i₀ i = many - i
+μ-loop satellites statuses at many good₀ i₀ good i = many - i
 
 loop-holds : tie.Need-loop-holds Inv-loop μ-loop
-loop-holds c = (omega arith, all-none _)
+loop-holds c = (omega arith, sym (all-none _))
 
 add-n : tie.Need-add-n Inv-loop μ-loop
 add-n c = search needs
@@ -32,8 +31,8 @@ shared-slice-read-entry-legal-2 c = search needs
 entry-legal-requires : tie.Need-entry-legal-requires Inv-loop μ-loop
 entry-legal-requires c κs = search needs
 
-returns : tie.Need-returns Inv-loop μ-loop
-returns c = let a = c .before .before .before .before .before .before .before .before .args in let h = c .before .before .before .before .before .loop in entries-stop (a .satellites .now) (a .statuses .now) (a .at) (h .i) (a .many) (h .inv .1) (omega arith) (c .before .entry-legal .ensures) (c .if1 .taken)
+both-requires : tie.Need-both-requires Inv-loop μ-loop
+both-requires c κs = search needs
 
 add-i : tie.Need-add-i Inv-loop μ-loop
 add-i c = search needs
@@ -42,10 +41,10 @@ loop-less : tie.Need-loop-less Inv-loop μ-loop
 loop-less c = search needs
 
 loop-again : tie.Need-loop-again Inv-loop μ-loop
-loop-again c = let a = c .before .before .before .before .before .before .before .before .args in let h = c .before .before .before .before .before .loop in (omega arith, entries-go (a .satellites .now) (a .statuses .now) (a .at) (h .i) (a .many) (h .inv .1) (c .before .entry-legal .ensures) (c .if1 .left))
+loop-again c = (omega arith, search entries-more)
 
-returns-2 : tie.Need-returns-2 Inv-loop μ-loop
-returns-2 c = let a = c .before .before .before .before .args in let h = c .before .loop in entries-end (a .satellites .now) (a .statuses .now) (a .at) (h .i) (a .many) (h .inv .1) (omega arith) (omega arith)
+returns : tie.Need-returns Inv-loop μ-loop
+returns c = let a = c .before .before .before .before .args in let h = c .before .loop in entries-end (a .satellites .now) (a .statuses .now) (a .at) (h .i) (a .many) (h .inv .1) (omega arith) (omega arith)
 
 pub entries-legal-spec : {M : Type 1} → statement M
 entries-legal-spec =
@@ -58,8 +57,8 @@ entries-legal-spec =
     shared-slice-read-entry-legal
     shared-slice-read-entry-legal-2
     entry-legal-requires
-    returns
+    both-requires
     add-i
     loop-less
     loop-again
-    returns-2)
+    returns)
