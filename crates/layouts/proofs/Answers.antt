@@ -8,7 +8,7 @@ use native.Mathlib.Omega.{arith}
 use lib.ListN.{take, drop, replicate}
 use lib.Dec.{T, ltb, eqb, eqb·suc-zero}
 use borrow.Author.Tests.{lt-ltb, le-ltb, lt-leb, le-leb, eq-eqb, ne-eqb}
-use Rattle.layouts.specs.Inner.{Inside}
+use Rattle.layouts.specs.inner.Code.{Inside}
 use Rattle.layouts.specs.Meaning.{meaning-part}
 use Rattle.layouts.specs.declared.answer.Part.{Part}
 use Rattle.layouts.specs.declared.answer.Part.the-variants.{Shown, Refused as NotShown}
@@ -101,6 +101,11 @@ none-fails (c ∷ cs) t e = go (c .fails) (c .number) (none-fails cs) t e
     go true (suc n) ih t h = absurd (omega arith)
     go false zero ih t h = absurd t
     go false (suc n) ih t h = (refl, ih (rw (eqb·suc-zero n) at t) h)
+
+pub all-pass : (cs : List Check) → Passed cs → refusal cs ≡ 0
+unfolding refusal
+all-pass [] p = refl
+all-pass (c ∷ cs) p = rw (p .0) (all-pass cs (p .1))
 
 pub converse : (cs : List Check) (l : List ℕ) {k : List ℕ} → T (numbered cs) → gives k ≡ answered (refusal cs) (gives l) → Passed cs
 converse cs l {k} t e = none-fails cs t (none-of (refusal cs) l k e .0)

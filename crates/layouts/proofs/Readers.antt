@@ -15,7 +15,7 @@ use Rattle.layouts.specs.declared.answer.Number.{Number}
 use Rattle.layouts.specs.declared.answer.Number.the-variants.{Value, Refused}
 use Rattle.layouts.specs.declared.answer.Part.{Part}
 use Rattle.layouts.specs.declared.answer.Part.the-variants.{Shown, Refused as NotShown}
-use Rattle.layouts.specs.Inner.{Inside}
+use Rattle.layouts.specs.inner.Code.{Inside}
 use Rattle.layouts.proofs.Answers.{stop, pass, done, refused-too, passed, answer-of, converse, numbered, passed-last}
 use Rattle.layouts.proofs.Fields.{field-lt}
 

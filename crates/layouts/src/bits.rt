@@ -11,7 +11,7 @@ ghost use Rattle.layouts.specs.Bits.{field, row, value, read};
 ghost use Rattle.layouts.specs.Sizes.{readSize};
 ghost use Rattle.layouts.specs.Meaning.{meaning-number, meaning-part};
 ghost use Rattle.layouts.specs.BitReader.{ReadBits};
-ghost use Rattle.layouts.specs.Inner.{Inside};
+ghost use Rattle.layouts.specs.inner.Code.{Inside};
 
 // A row of a layout: a field's first bit and its width in bits.
 pub struct Field {

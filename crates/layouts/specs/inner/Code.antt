@@ -1,4 +1,4 @@
--- What the private functions of the code do. No promise of a public function cites this file.
+-- What the private functions of the code do.
 -- Assumes nothing.
 use Prim.Native.Nat.{ℕ, _+_, _*_, _≤_}
 use mathlib.Core.List.{List, [], _∷_, _++_, map}
