@@ -70,7 +70,8 @@ pub signature-other : (k r : ℕ) → (signature-length k r ≡ 0 → ⊥) → (
 unfolding signature-length
 signature-other k r = go (eqb r (64 + padding-to-block (k + 64))) (eqb r (132 + padding-to-block (k + 132)))
   where
-    go : (x y : Bool) → (_≡_ {A = ℕ} (cond x 64 (cond y 132 0)) 0 → ⊥) → (_≡_ {A = ℕ} (cond x 64 (cond y 132 0)) 64 → ⊥) → _≡_ {A = ℕ} (cond x 64 (cond y 132 0)) 132
+    go : (x y : Bool) → (_≡_ {A = ℕ} (cond x 64 (cond y 132 0)) 0 → ⊥) → (_≡_ {A = ℕ} (cond x 64 (cond y 132 0)) 64 → ⊥)
+        → _≡_ {A = ℕ} (cond x 64 (cond y 132 0)) 132
     go true y ne no′ = absurd (no′ refl)
     go false true ne no′ = refl
     go false false ne no′ = absurd (ne refl)
@@ -146,7 +147,8 @@ module _ (m : List ℕ) where
   room : Passed (signatureChecks m) → 13 + keyBytes m + signatureBytes m ≤ length m
   room p =
       let h : 13 + keyBytes m ≤ length m = ltb-false (length m) (13 + keyBytes m) (p .1 .1 .0) in
-      let s : signatureBytes m ≤ length m - (13 + keyBytes m) = signature-fits (keyBytes m) (length m - (13 + keyBytes m)) (eqb-false (signatureBytes m) 0 (p .1 .1 .1 .0)) in
+      let r : ℕ = length m - (13 + keyBytes m) in
+      let s : signatureBytes m ≤ r = signature-fits (keyBytes m) r (eqb-false (signatureBytes m) 0 (p .1 .1 .1 .0)) in
       omega arith
 
   after : (first many : ℕ) → (13 + keyBytes m + signatureBytes m ≤ length m → first + many ≤ length m)

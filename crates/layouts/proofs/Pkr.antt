@@ -68,7 +68,8 @@ module _ (m : List ℕ) where
     pub type-read : 130 ≤ length m
     type-read =
         let gave : gives (v ∷ []) ≡ read (the "NPKT" pkrLayout) m = rw g at e in
-        let h : 1036 ≤ 8 * length m = ltb-false (8 * length m) 1036 (converse (reach (the "NPKT" pkrLayout) m ∷ []) (value (the "NPKT" pkrLayout) m ∷ []) tt gave .0) in
+        let there = converse (reach (the "NPKT" pkrLayout) m ∷ []) (value (the "NPKT" pkrLayout) m ∷ []) tt gave .0 in
+        let h : 1036 ≤ 8 * length m = ltb-false (8 * length m) 1036 there in
         omega arith
 
     module _ {b s : ℕ} (eb : b ≡ count m) (es : s ≡ size (newKeySizes b) v) where

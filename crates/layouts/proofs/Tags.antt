@@ -16,6 +16,7 @@ use Rattle.layouts.specs.Answer.{Answer, refused, gives, Copied, Check, 
 use Rattle.layouts.specs.Bits.{field, bytesFrom}
 use Rattle.layouts.specs.Sizes.{keySizes, tagSizes, Named, naming}
 use Rattle.layouts.specs.Mack.{listed, sizesOf, bytesOf, sizeChecks, mackChecks, nt, tagChecks, prndName, keyChecks, keyCopied}
+use Rattle.layouts.specs.inner.Code.{Room}
 use Rattle.layouts.specs.Meaning.{meaning-number}
 use Rattle.layouts.specs.declared.answer.Number.{Number}
 use Rattle.layouts.specs.declared.answer.Number.the-variants.{Value, Refused}
@@ -197,15 +198,12 @@ module _ (m : List ℕ) (K T n : ℕ) where
         tag-there h = then (rw (ne-eqb n 0 h0, ← tags-are, lt-leb t n h))
 
   -- room in the message for tag n and its info
-  abbrev Room : ℕ → Type 0
-  Room i = (length m ≡ 60) × (i * (T + 16) + T + 16 ≤ 480) × (T ≤ 40)
-
-  pub header-room : {q : ℕ} → q ≡ refusal (mackChecks m (bytesOf K) T) → q ≡ 0 → Room 0
+  pub header-room : {q : ℕ} → q ≡ refusal (mackChecks m (bytesOf K) T) → q ≡ 0 → Room m T 0
   header-room e z =
       let g = good-mack m K T (sym e ∙ z) in
       (sixty m K T (sym e ∙ z), omega (arith, g .tag-few, zero-mul (T + 16)), g .tag-few)
 
-  pub tag-room : {q : ℕ} → q ≡ refusal (tagChecks m (bytesOf K) T n) → q ≡ 0 → Room n
+  pub tag-room : {q : ℕ} → q ≡ refusal (tagChecks m (bytesOf K) T n) → q ≡ 0 → Room m T n
   tag-room e z =
       let p = none-fails (tagChecks m (bytesOf K) T n) tt (sym e ∙ z) in
       let g = good-sizes K T (not-false _ (p .1 .0)) (not-false _ (p .1 .1 .0)) in

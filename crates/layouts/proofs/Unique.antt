@@ -9,7 +9,8 @@ use lib.Dec.{eqb}
 use Rattle.layouts.specs.Agree.{Agree, AgreeWith}
 use Rattle.layouts.specs.Agreed.{Agreed}
 use Rattle.layouts.specs.Answer.{Answer, refused, nothing, gives, Copied}
-use Rattle.layouts.specs.Meaning.{meaning-number, meaning-part, meaning-copy, meaning-status, meaning-chain-status, meaning-type, meaning-hash, meaning-mac, meaning-ecdsa, meaning-key-type, meaning-adkd, meaning-prnd, meaning-slot, meaning-page-kind}
+use Rattle.layouts.specs.Meaning.{meaning-number, meaning-part, meaning-copy, meaning-status, meaning-chain-status, meaning-type, meaning-hash}
+use Rattle.layouts.specs.Meaning.{meaning-mac, meaning-ecdsa, meaning-key-type, meaning-adkd, meaning-prnd, meaning-slot, meaning-page-kind}
 use Rattle.layouts.specs.InavPage.{OsnmaRead}
 use Rattle.layouts.specs.DsmPkr as pkr
 use Rattle.layouts.specs.MacltPromises.{FlxIndicesRead}
@@ -20,7 +21,8 @@ use Rattle.layouts.specs.declared.answer.Part.the-variants.{Shown, Refus
 use Rattle.layouts.specs.declared.nma_header.NmaStatus.{NmaStatus}
 use Rattle.layouts.specs.declared.nma_header.NmaStatus.the-variants.{Reserved as StatusReserved, Test, Operational, DontUse}
 use Rattle.layouts.specs.declared.nma_header.ChainAndPubkeyStatus.{ChainAndPubkeyStatus}
-use Rattle.layouts.specs.declared.nma_header.ChainAndPubkeyStatus.the-variants.{Reserved, Nominal, EndOfChain, ChainRevoked, NewPublicKey, PublicKeyRevoked, NewMerkleTree, AlertMessage}
+use Rattle.layouts.specs.declared.nma_header.ChainAndPubkeyStatus.the-variants.{Reserved, Nominal, EndOfChain, ChainRevoked}
+use Rattle.layouts.specs.declared.nma_header.ChainAndPubkeyStatus.the-variants.{NewPublicKey, PublicKeyRevoked, NewMerkleTree, AlertMessage}
 use Rattle.layouts.specs.declared.dsm_header.DsmType.{DsmType}
 use Rattle.layouts.specs.declared.dsm_header.DsmType.the-variants.{Kroot, Pkr}
 use Rattle.layouts.specs.declared.dsm_kroot.HashFunction.the-variants.{Sha256, «Sha3_256», Reserved as HashReserved}
@@ -131,7 +133,9 @@ undo-type Kroot = refl
 undo-type Pkr = refl
 
 abbrev back-hash : Answer → HashFunctionAnswer
-back-hash = answer HashRefused (HashRefused 0) (one (λ v. (cond (eqb v 0) (HashIs Sha256) (cond (eqb v 2) (HashIs «Sha3_256») (HashIs HashReserved)))) (HashIs HashReserved))
+back-hash =
+    answer HashRefused (HashRefused 0)
+    (one (λ v. (cond (eqb v 0) (HashIs Sha256) (cond (eqb v 2) (HashIs «Sha3_256») (HashIs HashReserved)))) (HashIs HashReserved))
 
 undo-hash : (r : HashFunctionAnswer) → back-hash (meaning-hash r) ≡ r
 undo-hash (HashIs Sha256) = refl
@@ -140,7 +144,9 @@ undo-hash (HashIs HashReserved) = refl
 undo-hash (HashRefused n) = refl
 
 abbrev back-mac : Answer → MacFunctionAnswer
-back-mac = answer MacRefused (MacRefused 0) (one (λ v. (cond (eqb v 0) (MacIs HmacSha256) (cond (eqb v 1) (MacIs CmacAes) (MacIs MacReserved)))) (MacIs MacReserved))
+back-mac =
+    answer MacRefused (MacRefused 0)
+    (one (λ v. (cond (eqb v 0) (MacIs HmacSha256) (cond (eqb v 1) (MacIs CmacAes) (MacIs MacReserved)))) (MacIs MacReserved))
 
 undo-mac : (r : MacFunctionAnswer) → back-mac (meaning-mac r) ≡ r
 undo-mac (MacIs HmacSha256) = refl
@@ -156,8 +162,13 @@ undo-ecdsa (EcdsaIs P256Sha256) = refl
 undo-ecdsa (EcdsaIs P521Sha512) = refl
 undo-ecdsa (EcdsaRefused n) = refl
 
+abbrev key-type-of : ℕ → NewPublicKeyTypeAnswer
+key-type-of v =
+    cond (eqb v 1) (TypeIs (EcdsaKey P256Sha256))
+    (cond (eqb v 3) (TypeIs (EcdsaKey P521Sha512)) (cond (eqb v 4) (TypeIs OsnmaAlertMessage) (TypeIs TypeReserved)))
+
 abbrev back-key-type : Answer → NewPublicKeyTypeAnswer
-back-key-type = answer TypeRefused (TypeRefused 0) (one (λ v. (cond (eqb v 1) (TypeIs (EcdsaKey P256Sha256)) (cond (eqb v 3) (TypeIs (EcdsaKey P521Sha512)) (cond (eqb v 4) (TypeIs OsnmaAlertMessage) (TypeIs TypeReserved))))) (TypeIs TypeReserved))
+back-key-type = answer TypeRefused (TypeRefused 0) (one key-type-of (TypeIs TypeReserved))
 
 undo-key-type : (r : NewPublicKeyTypeAnswer) → back-key-type (meaning-key-type r) ≡ r
 undo-key-type (TypeIs (EcdsaKey P256Sha256)) = refl

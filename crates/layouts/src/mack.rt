@@ -16,6 +16,7 @@ ghost use Rattle.layouts.specs.Answer.{refusal as refusalOf, answered, g
 ghost use Rattle.layouts.specs.Bits.{field, bytesFrom};
 ghost use Rattle.layouts.specs.Sizes.{keySizes, tagSizes};
 ghost use Rattle.layouts.specs.Meaning.{meaning-number};
+ghost use Rattle.layouts.specs.inner.Code.{Room, tagEnd};
 ghost use Rattle.layouts.specs.Mack.{
   listed,
   sizesOf,
@@ -137,7 +138,7 @@ pub fn num_tags(key_size: usize, tag_size: usize) -> Number
 
 // The bits of tag `n`, unless refused.
 fn tag_at(msg: &[u8], refusal: u8, n: usize, tag_size: usize) -> Number
-    requires { ⌜ (refusal ≡ 0 → (length (now msg) ≡ 60) × (n * («tag_size» + 16) + «tag_size» + 16 ≤ 480) × («tag_size» ≤ 40)) ⌝ }
+    requires { ⌜ (refusal ≡ 0 → Room (now msg) «tag_size» n) ⌝ }
     ensures { λ r. ⌜ meaning-number r ≡ answered refusal (gives (field (now (msg .entry)) (n * («tag_size» + 16)) «tag_size» ∷ [])) ⌝ }
 {
     if refusal != 0 {
@@ -148,8 +149,8 @@ fn tag_at(msg: &[u8], refusal: u8, n: usize, tag_size: usize) -> Number
 
 // The field `at` behind tag `n`, unless refused.
 fn info_at(msg: &[u8], refusal: u8, n: usize, tag_size: usize, at: Field) -> Number
-    requires { ⌜ (at .first + at .width ≤ 16) × (refusal ≡ 0 → (length (now msg) ≡ 60) × (n * («tag_size» + 16) + «tag_size» + 16 ≤ 480) × («tag_size» ≤ 40)) ⌝ }
-    ensures { λ r. ⌜ meaning-number r ≡ answered refusal (gives (field (now (msg .entry)) (n * («tag_size» + 16) + «tag_size» + at .first) (at .width) ∷ [])) ⌝ }
+    requires { ⌜ (at .first + at .width ≤ 16) × (refusal ≡ 0 → Room (now msg) «tag_size» n) ⌝ }
+    ensures { λ r. ⌜ meaning-number r ≡ answered refusal (gives (field (now (msg .entry)) (tagEnd «tag_size» n + at .first) (at .width) ∷ [])) ⌝ }
 {
     if refusal != 0 {
         return Number::Refused(refusal);
