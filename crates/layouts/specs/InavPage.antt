@@ -7,7 +7,7 @@ use mathlib.Core.Bool.{Bool, cond, not, _&&_}
 use mathlib.Core.Path.{_≡_}
 use lib.ListN.{length, replicate}
 use lib.Dec.{eqb}
-use Rattle.layouts.specs.Answer.{Answer, nothing, gives, Check, _when_, refusal, answered, Copied}
+use Rattle.layouts.specs.Answer.{nothing, gives, Check, _when_, refusal, answered, Copied}
 use Rattle.layouts.specs.Bits.{bit, bytesFrom, Field, row, the}
 use Rattle.layouts.specs.Meaning.{meaning-page-kind, meaning-copy}
 use Rattle.layouts.specs.declared.inav_page.PageKind.{PageKind}

@@ -1,6 +1,6 @@
 -- `bits::of_byte`: one shift and one mask.
 -- Assumes nothing.
-use mathlib.Core.Path.{_≡_, sym, ap, _∙_, subst⁻¹}
+use mathlib.Core.Path.{sym, ap, _∙_, subst⁻¹}
 use Prim.Native.Nat.{ℕ, _≤_, _-_, _/_, _^_}
 use native.Mathlib.Omega.{arith}
 use lib.Bits.{bitAnd, and-mask}

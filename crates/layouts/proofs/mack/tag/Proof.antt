@@ -1,6 +1,5 @@
 -- `mack::tag`: the field at its place.
 -- Assumes nothing.
-use native.Mathlib.Omega.{arith}
 use Rattle.layouts.proofs.Tags.{tag-room, read-tag}
 use borrow.Author.Needs.{needs}
 use Rattle.layouts.proofs.mack.tag.Statement.{statement}

@@ -1,6 +1,5 @@
 -- `mack::tag0`: the field at its place.
 -- Assumes nothing.
-use native.Mathlib.Omega.{arith}
 use Rattle.layouts.proofs.Tags.{header-room, read-tag0}
 use borrow.Author.Needs.{needs}
 use Rattle.layouts.proofs.mack.tag0.Statement.{statement}
