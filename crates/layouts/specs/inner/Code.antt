@@ -1,9 +1,10 @@
--- What the private functions of the code do. No promise of a public function cites this file.
+-- What the private functions of the code do.
 -- Assumes nothing.
 use Prim.Native.Nat.{ℕ, _+_, _*_, _≤_}
 use mathlib.Core.List.{List, [], _∷_, _++_, map}
+use mathlib.Core.Path.{_≡_}
 use mathlib.Core.Bool.{cond}
-use lib.ListN.{take, replicate}
+use lib.ListN.{length, take, replicate}
 use lib.Dec.{eqb}
 use Rattle.layouts.specs.Maclt.{Slot, fixed, flex, Row, flxOf, padded}
 use Rattle.layouts.specs.declared.answer.Part.{Part}
@@ -13,6 +14,14 @@ use Rattle.layouts.specs.declared.answer.Part.the-variants.{Shown, Refus
 abbrev pub Inside : Part → ℕ → Type 0
 Inside (Shown first many) len = first + many ≤ len
 Inside (Refused n) len = Unit {0}
+
+-- the message has 60 bytes, and tag n with its info lies in it
+abbrev pub Room : List ℕ → ℕ → ℕ → Type 0
+Room m T n = (length m ≡ 60) × (n * (T + 16) + T + 16 ≤ 480) × (T ≤ 40)
+
+-- the bit behind tag n
+abbrev pub tagEnd : ℕ → ℕ → ℕ
+tagEnd T n = n * (T + 16) + T
 
 -- The table as the code has it.
 
