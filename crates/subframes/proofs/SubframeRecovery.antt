@@ -20,7 +20,7 @@ use Rattle.runs.proofs.Basics.{and-true, part-is}
 use Rattle.subframes.proofs.Pages.{feed-refused, feed-admitted}
 use Rattle.subframes.proofs.SubframeSound.{Sound, sound-passes}
 use Rattle.runs.proofs.Rising.{taken-chain, shorter, earliest, reaches, chosen-kept}
-use Rattle.runs.proofs.Runs.{goes-on, before-twice, run-before, run-from, kept-by-all}
+use Rattle.runs.proofs.Runs.{goes-on, before-twice, run-before, run-from, kept-by-all, firstFrom, as-the-first}
 use Rattle.subframes.proofs.SubframeRun.{words, pageOf, words-few, words-up, Of, Core, Step, offered-step}
 
 -- The messages of a satellite, from the pages that it took.
@@ -248,6 +248,10 @@ same-as-first x c d e =
     ap (λ (k : ℕ). eqb k (d .week) && eqb (subframeOf (x .time)) (subframeOf (d .time))) (eqb-true (x .week) (c .week) (q .0))
     ∙ ap (λ (k : ℕ). eqb (c .week) (d .week) && eqb k (subframeOf (d .time))) (eqb-true (subframeOf (x .time)) (subframeOf (c .time)) (q .1))
 
+-- a run cut by its first page instead of the one before is the same
+pub run-by-first : (ps : List Page) → run ps ≡ firstFrom isAdmitted sameSubframe [] ps
+run-by-first ps = as-the-first isAdmitted sameSubframe same-as-first ps
+
 -- A call, at a run.
 module _ (s : State) (r : List Page) (w : Holds s r) (p : Page) where
   refused-is : isAdmitted p ≡ false → feed s p ≡ record { state = s; answer = refused (refusal (callChecks p)) }
@@ -280,7 +284,7 @@ module _ (s : State) (r : List Page) (w : Holds s r) (p : Page) where
         record {
           sound = fed-sound;
           at-run = λ q.
-              let on : goesOn isAdmitted sameSubframe (grown r p) q ≡ sameSubframe p q = ap (λ (l : List Page). goesOn isAdmitted sameSubframe l q) grown-is ∙ goes-on isAdmitted sameSubframe same-as-first r p q in
+              let on : goesOn isAdmitted sameSubframe (grown r p) q ≡ sameSubframe p q = ap (λ (l : List Page). goesOn isAdmitted sameSubframe l q) grown-is ∙ goes-on isAdmitted sameSubframe (before r p) p q in
               subst⁻¹ (λ (b : Bool). Core (q .week) (subframeOf (q .time)) (changed (feed s p .state) (q .week) (subframeOf (q .time))) (cond b (grown r p) [])) on
               (changed-core (p .week) (subframeOf (p .time)) (feed s p .state) (grown r p) fed-core (q .week) (subframeOf (q .time)));
         }
