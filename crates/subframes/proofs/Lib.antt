@@ -1,8 +1,10 @@
 pub mod Counts
 pub mod Entries
+pub mod Sats
 pub mod Pages
 pub mod SubframeRecovery
 pub mod SubframeRun
 pub mod SubframeSound
 pub mod SubframeUnique
+pub mod SubframeUsed
 pub mod TraceUnique

@@ -3,6 +3,7 @@ pub mod Subframe
 pub mod SubframeInner
 pub mod SubframePromises
 pub mod SubframeRecovery
+pub mod SubframeUsed
 pub mod Trace
 pub mod TraceInner
 pub mod TracePromises

@@ -1,4 +1,5 @@
 // A subframe from its pages, one by one and from a trace. It sees only what `layouts` promises.
+mod gst;
 mod page;
 pub mod subframe;
 pub mod trace;
