@@ -1,10 +1,13 @@
 pub mod Counts
 pub mod Entries
-pub mod Sats
 pub mod Pages
+pub mod Sats
+pub mod SubframeHistory
 pub mod SubframeRecovery
 pub mod SubframeRun
 pub mod SubframeSound
 pub mod SubframeUnique
 pub mod SubframeUsed
+pub mod TraceSteps
 pub mod TraceUnique
+pub mod TraceWalk

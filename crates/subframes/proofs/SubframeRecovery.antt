@@ -15,7 +15,7 @@ use Rattle.layouts.specs.Answer.{Answer, refused, nothing, gives, shown, Check,
 use Rattle.layouts.proofs.Answers.{none-fails}
 use Rattle.subframes.specs.Subframe.{State, new, Page, subframeOf, wordOf, Fed, small, viewChecks, feedChecks, changed, offered, feed, view}
 use Rattle.runs.specs.Runs.{goesOn, runFrom}
-use Rattle.subframes.specs.SubframeRecovery.{callChecks, isAdmitted, sameSubframe, before, grown, run, after, hasWord, noPage, Words, hkrootOf, mackOf, message, Built, ComesOut, Alike, Viewed, SubframesRecover}
+use Rattle.subframes.specs.SubframeRecovery.{callChecks, isAdmitted, sameSubframe, before, grown, run, after, hasWord, noPage, Words, hkrootOf, mackOf, message, Built, ComesOut, Alike, Viewed, SubframesRecover, SubframesShow}
 use Rattle.runs.proofs.Basics.{and-true, part-is}
 use Rattle.subframes.proofs.Pages.{feed-refused, feed-admitted}
 use Rattle.subframes.proofs.SubframeSound.{Sound, sound-passes}
@@ -305,7 +305,7 @@ after-holds : (s : State) (r ps : List Page) → Holds s r → Holds (after s ps
 after-holds s r ps h = kept-by-all isAdmitted sameSubframe (λ (t : State) (p : Page). feed t p .state) Holds call-holds s r ps h
 
 -- Two collectors that are at the same run.
-same-run : (s t : State) (r q : List Page) (p : Page) → Holds s r → Holds t q → isAdmitted p ≡ true → before r p ≡ before q p → Alike s t p
+same-run : (s t : State) (r q : List Page) (p : Page) → Holds s r → Holds t q → isAdmitted p ≡ true → before r p ≡ before q p → Alike (feed s p) (feed t p)
 same-run s t r q p a b e h =
     let g : grown r p ≡ grown q p = rw e (ap (λ (l : List Page). l ++ (p ∷ [])) h) in
     let ks = fed-core s r a p e in
@@ -327,7 +327,7 @@ same-run s t r q p a b e h =
           ∙ sym (core-mack (p .week) (subframeOf (p .time)) (feed t p .state) (grown q p) kt lt n);
     }
 
-like-new-at : (s : State) (r : List Page) → Holds s r → run r ≡ r → (p : Page) (h m : List ℕ) → length h ≡ 540 → length m ≡ 2160 → isAdmitted p ≡ true → Alike s (after (new h m) (before r p)) p
+like-new-at : (s : State) (r : List Page) → Holds s r → run r ≡ r → (p : Page) (h m : List ℕ) → length h ≡ 540 → length m ≡ 2160 → isAdmitted p ≡ true → Alike (feed s p) (feed (after (new h m) (before r p)) p)
 like-new-at s r w own p h m lh lm e =
     same-run s (after (new h m) (before r p)) r (run (before r p)) p w (after-holds (new h m) [] (before r p) (new-holds h m lh lm)) e
     (sym (ap (λ (q : List Page). before q p) (run-before isAdmitted sameSubframe r p own) ∙ before-twice isAdmitted sameSubframe r p))
@@ -425,3 +425,23 @@ subframes-recover h m lh lm ps p =
       until-changed = λ on n some few all. stays s (run ps) w p on n some few all;
       refused-call = refused-is s (run ps) w p;
     }
+
+-- What is shown between the calls.
+record Seen (s : State) (r : List Page) : Type 0 where
+  holds : Holds s r
+  sees : (n : ℕ) → 1 ≤ n → n ≤ 36 → Viewed s r n
+
+seen-call : (s : State) (r : List Page) → Seen s r → (p : Page) → Seen (feed s p .state) (grown r p)
+seen-call s r w p = record { holds = call-holds s r (w .holds) p; sees = λ n some few. go n some few (isAdmitted p) refl }
+  where
+    go : (n : ℕ) → 1 ≤ n → n ≤ 36 → (b : Bool) → isAdmitted p ≡ b → Viewed (feed s p .state) (grown r p) n
+    go n some few true e = core-viewed (p .week) (subframeOf (p .time)) (feed s p .state) (grown r p) (fed-core s r (w .holds) p e) (fed-sound s r (w .holds) p e) n some few
+    go n some few false e =
+        let same : grown r p ≡ r = rw e in
+        subst⁻¹ (λ (l : List Page). Viewed (feed s p .state) l n) same (subst⁻¹ (λ (f : Fed). Viewed (f .state) r n) (refused-is s r (w .holds) p e) (w .sees n some few))
+
+pub subframes-show : SubframesShow
+subframes-show h m lh lm ps n some few =
+    let k : Core 0 0 (new h m) [] = fresh-core 0 0 h m lh lm in
+    let first : Seen (new h m) [] = record { holds = new-holds h m lh lm; sees = core-viewed 0 0 (new h m) [] k (core-sound 0 0 (new h m) [] k (omega arith) (omega arith)) } in
+    kept-by-all isAdmitted sameSubframe (λ (t : State) (p : Page). feed t p .state) Seen seen-call (new h m) [] ps first .sees n some few

@@ -1,5 +1,6 @@
 pub mod PageInner
 pub mod Subframe
+pub mod SubframeHistory
 pub mod SubframeInner
 pub mod SubframePromises
 pub mod SubframeRecovery
@@ -7,3 +8,4 @@ pub mod SubframeUsed
 pub mod Trace
 pub mod TraceInner
 pub mod TracePromises
+pub mod TraceWalk
