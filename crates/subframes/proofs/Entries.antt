@@ -8,8 +8,9 @@ use mathlib.Core.Bool.{true, false}
 use lib.ListN.{length, getD, take, drop, length-take, length-drop}
 use borrow.Author.Tests.{eq-eqb, ne-eqb}
 use Rattle.layouts.specs.Answer.{Answer, refused, nothing, gives, refusal}
+use Rattle.layouts.specs.Gst.{svnGstChecks}
 use Rattle.layouts.proofs.Answers.{none-fails}
-use Rattle.subframes.specs.Subframe.{State, Page, Fed, svnGstChecks, recordChecks, feedChecks, feed}
+use Rattle.subframes.specs.Subframe.{State, Page, Fed, recordChecks, feedChecks, feed}
 use Rattle.subframes.specs.Trace.{entryAt, entriesFrom, entries, FedMany, feedEach, traceChecks, feedAll}
 use Rattle.subframes.specs.PageInner.{pageOf, stateOf, answerOf, PageFed}
 use Rattle.subframes.specs.TraceInner.{completesOf, endsWith}

@@ -1,7 +1,6 @@
 pub mod Counts
 pub mod Entries
 pub mod Pages
-pub mod Sats
 pub mod SubframeHistory
 pub mod SubframeRecovery
 pub mod SubframeRun

@@ -9,8 +9,9 @@ use lib.ListN.{length, getD, set, take, drop, replicate, getD-replicate}
 use lib.Dec.{ltb, eqb, eqb·suc-zero}
 use borrow.Author.Tests.{le-ltb, lt-ltb, eq-eqb, ne-eqb, eqb-true, ltb-false, not-false}
 use Rattle.layouts.specs.Answer.{Answer, refused, nothing, gives, Check, refusal, shown, Copied, copied}
+use Rattle.layouts.specs.Gst.{svnChecks, svnGstChecks}
 use Rattle.layouts.proofs.Answers.{none-fails, stopped, went-on, copied-refused, copied-bytes}
-use Rattle.subframes.specs.Subframe.{State, Page, Fed, WordStep, wordOf, subframeOf, small, svnChecks, svnGstChecks, rangeChecks, recordChecks, viewChecks}
+use Rattle.subframes.specs.Subframe.{State, Page, Fed, WordStep, wordOf, subframeOf, small, rangeChecks, recordChecks, viewChecks}
 use Rattle.subframes.specs.Subframe.{askChecks, feedChecks, takeWord, changed, put4, answerAt, used, offered, isUsed, feed, usedAnswer, view}
 use Rattle.subframes.specs.PageInner.{pageOf, stateOf, answerOf, usedOf, Offered, PageFed}
 use Rattle.subframes.specs.SubframePromises.{state, TakeWord, meaning-word, sizeOf, bufferOf, meaning-shown, ViewSubframeShown, ViewSubframe}

@@ -9,9 +9,10 @@ use mathlib.Core.List.{List, [], _∷_, _++_}
 use mathlib.Core.Bool.{Bool, true, false, cond, not, _&&_}
 use lib.ListN.{length, getD, take, drop, replicate, length-drop, getD-replicate}
 use lib.Seq.{length-take-le, getD-take, getD-drop, drop-drop, take-add}
-use lib.Dec.{leb, ltb, eqb}
+use lib.Dec.{leb, eqb}
 use borrow.Author.Tests.{le-leb, le-ltb, ne-eqb, eqb-true, eqb-false, ltb-false, leb-true, leb-false, not-false}
-use Rattle.layouts.specs.Answer.{Answer, refused, nothing, gives, shown, Check, _when_, refusal}
+use Rattle.layouts.specs.Answer.{Answer, refused, nothing, gives, shown, refusal}
+use Rattle.layouts.specs.Gst.{svnChecks}
 use Rattle.layouts.proofs.Answers.{none-fails}
 use Rattle.subframes.specs.Subframe.{State, new, Page, subframeOf, wordOf, Fed, small, viewChecks, feedChecks, changed, offered, feed, view}
 use Rattle.runs.specs.Runs.{goesOn, runFrom}
@@ -76,11 +77,8 @@ module _ (n : ℕ) (s : State) (r : List Page) (o : Of n s r) (some : 1 ≤ n) (
         }
 
 -- What is refused at a record that is not.
-abbrev satelliteChecks : ℕ → List Check
-satelliteChecks n = 2 when ltb n 1 ∷ 2 when ltb 36 n ∷ []
-
-view-number : (s : State) → Sound s → (n : ℕ) → refusal (viewChecks s n) ≡ refusal (satelliteChecks n)
-view-number s l n = sound-passes s l (satelliteChecks n)
+view-number : (s : State) → Sound s → (n : ℕ) → refusal (viewChecks s n) ≡ refusal (svnChecks n)
+view-number s l n = sound-passes s l (svnChecks n)
 
 feed-number : (s : State) → Sound s → (p : Page) → refusal (feedChecks s p) ≡ refusal (callChecks p)
 unfolding refusal
@@ -107,14 +105,14 @@ admitted-is p e =
 
 -- What the viewer shows, said of the run alone.
 abbrev viewOf : List Page → ℕ → ℕ → Answer
-viewOf r size n = cond (eqb (refusal (satelliteChecks n)) 0) (cond (leb 15 (words n r)) (gives (size * (n - 1) ∷ size ∷ [])) nothing) (refused (refusal (satelliteChecks n)))
+viewOf r size n = cond (eqb (refusal (svnChecks n)) 0) (cond (leb 15 (words n r)) (gives (size * (n - 1) ∷ size ∷ [])) nothing) (refused (refusal (svnChecks n)))
 
-seen : (n : ℕ) → eqb (refusal (satelliteChecks n)) 0 ≡ true → (1 ≤ n) × (n ≤ 36)
+seen : (n : ℕ) → eqb (refusal (svnChecks n)) 0 ≡ true → (1 ≤ n) × (n ≤ 36)
 seen n e =
-    let f = none-fails (satelliteChecks n) tt (eqb-true (refusal (satelliteChecks n)) 0 e) in
+    let f = none-fails (svnChecks n) tt (eqb-true (refusal (svnChecks n)) 0 e) in
     (ltb-false n 1 (f .0), ltb-false 36 n (f .1 .0))
 
-in-range : (n : ℕ) → 1 ≤ n → n ≤ 36 → eqb (refusal (satelliteChecks n)) 0 ≡ true
+in-range : (n : ℕ) → 1 ≤ n → n ≤ 36 → eqb (refusal (svnChecks n)) 0 ≡ true
 unfolding refusal
 in-range n l u = rw (le-ltb n 1 l, le-ltb 36 n u)
 
@@ -132,32 +130,32 @@ eqb-top m l = go (ℕ-discrete m 15)
 module _ (week subframe : ℕ) (s : State) (r : List Page) (k : Core week subframe s r) (l : Sound s) where
   core-view : (size n : ℕ) → view s size n ≡ viewOf r size n
   unfolding view
-  core-view size n = rw (view-number s l n) (go (eqb (refusal (satelliteChecks n)) 0) refl)
+  core-view size n = rw (view-number s l n) (go (eqb (refusal (svnChecks n)) 0) refl)
     where
-      go : (b : Bool) → eqb (refusal (satelliteChecks n)) 0 ≡ b
-          → cond b (cond (eqb (getD (s .counts) (n - 1) 0) 15) (gives (size * (n - 1) ∷ size ∷ [])) nothing) (refused (refusal (satelliteChecks n)))
-          ≡ cond b (cond (leb 15 (words n r)) (gives (size * (n - 1) ∷ size ∷ [])) nothing) (refused (refusal (satelliteChecks n)))
+      go : (b : Bool) → eqb (refusal (svnChecks n)) 0 ≡ b
+          → cond b (cond (eqb (getD (s .counts) (n - 1) 0) 15) (gives (size * (n - 1) ∷ size ∷ [])) nothing) (refused (refusal (svnChecks n)))
+          ≡ cond b (cond (leb 15 (words n r)) (gives (size * (n - 1) ∷ size ∷ [])) nothing) (refused (refusal (svnChecks n)))
       go true e =
           let h = seen n e in
           ap (λ (x : Bool). cond x (gives (size * (n - 1) ∷ size ∷ [])) nothing) (ap (λ (m : ℕ). eqb m 15) (k .of n (h .0) (h .1) .count-is) ∙ eqb-top (words n r) (words-few n r))
       go false e = refl
 
-  core-hkroot : (n : ℕ) → shown (s .hkroot) (view s 15 n) ≡ cond (eqb (refusal (satelliteChecks n)) 0 && leb 15 (words n r)) (hkrootOf (pageOf n r) 15) []
+  core-hkroot : (n : ℕ) → shown (s .hkroot) (view s 15 n) ≡ cond (eqb (refusal (svnChecks n)) 0 && leb 15 (words n r)) (hkrootOf (pageOf n r) 15) []
   unfolding shown
-  core-hkroot n = ap (shown (s .hkroot)) (core-view 15 n) ∙ go (eqb (refusal (satelliteChecks n)) 0) refl (leb 15 (words n r)) refl
+  core-hkroot n = ap (shown (s .hkroot)) (core-view 15 n) ∙ go (eqb (refusal (svnChecks n)) 0) refl (leb 15 (words n r)) refl
     where
-      go : (a : Bool) → eqb (refusal (satelliteChecks n)) 0 ≡ a → (b : Bool) → leb 15 (words n r) ≡ b
-          → shown (s .hkroot) (cond a (cond b (gives (15 * (n - 1) ∷ 15 ∷ [])) nothing) (refused (refusal (satelliteChecks n)))) ≡ cond (a && b) (hkrootOf (pageOf n r) 15) []
+      go : (a : Bool) → eqb (refusal (svnChecks n)) 0 ≡ a → (b : Bool) → leb 15 (words n r) ≡ b
+          → shown (s .hkroot) (cond a (cond b (gives (15 * (n - 1) ∷ 15 ∷ [])) nothing) (refused (refusal (svnChecks n)))) ≡ cond (a && b) (hkrootOf (pageOf n r) 15) []
       go true e true f = let h = seen n e in hkroot-message n s r (k .of n (h .0) (h .1)) (h .0) (h .1) (k .h540) (k .m2160) (leb-true 15 (words n r) f)
       go true e false f = refl
       go false e b f = refl
 
-  core-mack : (n : ℕ) → shown (s .mack) (view s 60 n) ≡ cond (eqb (refusal (satelliteChecks n)) 0 && leb 15 (words n r)) (mackOf (pageOf n r) 15) []
+  core-mack : (n : ℕ) → shown (s .mack) (view s 60 n) ≡ cond (eqb (refusal (svnChecks n)) 0 && leb 15 (words n r)) (mackOf (pageOf n r) 15) []
   unfolding shown
-  core-mack n = ap (shown (s .mack)) (core-view 60 n) ∙ go (eqb (refusal (satelliteChecks n)) 0) refl (leb 15 (words n r)) refl
+  core-mack n = ap (shown (s .mack)) (core-view 60 n) ∙ go (eqb (refusal (svnChecks n)) 0) refl (leb 15 (words n r)) refl
     where
-      go : (a : Bool) → eqb (refusal (satelliteChecks n)) 0 ≡ a → (b : Bool) → leb 15 (words n r) ≡ b
-          → shown (s .mack) (cond a (cond b (gives (60 * (n - 1) ∷ 60 ∷ [])) nothing) (refused (refusal (satelliteChecks n)))) ≡ cond (a && b) (mackOf (pageOf n r) 15) []
+      go : (a : Bool) → eqb (refusal (svnChecks n)) 0 ≡ a → (b : Bool) → leb 15 (words n r) ≡ b
+          → shown (s .mack) (cond a (cond b (gives (60 * (n - 1) ∷ 60 ∷ [])) nothing) (refused (refusal (svnChecks n)))) ≡ cond (a && b) (mackOf (pageOf n r) 15) []
       go true e true f = let h = seen n e in mack-message n s r (k .of n (h .0) (h .1)) (h .0) (h .1) (k .h540) (k .m2160) (leb-true 15 (words n r) f)
       go true e false f = refl
       go false e b f = refl
@@ -320,10 +318,10 @@ same-run s t r q p a b e h =
           ∙ ap (λ (l : List Page). viewOf l size n) g
           ∙ sym (core-view (p .week) (subframeOf (p .time)) (feed t p .state) (grown q p) kt lt size n);
       hkroot-is = λ n. core-hkroot (p .week) (subframeOf (p .time)) (feed s p .state) (grown r p) ks ls n
-          ∙ ap (λ (l : List Page). cond (eqb (refusal (satelliteChecks n)) 0 && leb 15 (words n l)) (hkrootOf (pageOf n l) 15) []) g
+          ∙ ap (λ (l : List Page). cond (eqb (refusal (svnChecks n)) 0 && leb 15 (words n l)) (hkrootOf (pageOf n l) 15) []) g
           ∙ sym (core-hkroot (p .week) (subframeOf (p .time)) (feed t p .state) (grown q p) kt lt n);
       mack-is = λ n. core-mack (p .week) (subframeOf (p .time)) (feed s p .state) (grown r p) ks ls n
-          ∙ ap (λ (l : List Page). cond (eqb (refusal (satelliteChecks n)) 0 && leb 15 (words n l)) (mackOf (pageOf n l) 15) []) g
+          ∙ ap (λ (l : List Page). cond (eqb (refusal (svnChecks n)) 0 && leb 15 (words n l)) (mackOf (pageOf n l) 15) []) g
           ∙ sym (core-mack (p .week) (subframeOf (p .time)) (feed t p .state) (grown q p) kt lt n);
     }
 

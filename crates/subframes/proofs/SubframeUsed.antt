@@ -9,7 +9,7 @@ use lib.ListN.{getD, replicate}
 use lib.Dec.{eqb}
 use Rattle.layouts.specs.Answer.{Answer, refused, nothing, gives, Check, refusal}
 use Rattle.layouts.proofs.Answers.{none-fails}
-use Rattle.subframes.specs.Subframe.{State, Page, wordOf, subframeOf, small, svnGstChecks, rangeChecks, askChecks, feedChecks, changed, offered, isUsed}
+use Rattle.subframes.specs.Subframe.{State, Page, wordOf, subframeOf, small, rangeChecks, askChecks, feedChecks, changed, offered, isUsed}
 use Rattle.subframes.specs.Subframe.{feed, usedAnswer}
 use Rattle.subframes.specs.SubframePromises.{state, call}
 use Rattle.subframes.specs.SubframeUsed.{UsedIsTaken, UsedIsAsked, UsedExample}

@@ -6,6 +6,7 @@ use mathlib.Core.Bool.{Bool, true, cond, not, _&&_}
 use lib.ListN.{length, getD, set, replicate}
 use lib.Dec.{leb, ltb, eqb}
 use Rattle.layouts.specs.Answer.{Answer, refused, nothing, gives, Check, _when_, refusal}
+use Rattle.layouts.specs.Gst.{svnChecks, svnGstChecks}
 
 -- "The record holds week, subframe and 36 word counts"; beside it the 540 HKROOT bytes (36 by 15) and the 2,160 MACK bytes (36 by 60) that are lent
 pub record State : Type 0 where
@@ -32,13 +33,6 @@ wordOf time = time / 2 % 15
 
 abbrev pub subframeOf : ℕ → ℕ
 subframeOf time = time / 30
-
--- what is refused of a satellite, 2, and of a satellite, week and time, 2, 3, 4
-abbrev pub svnChecks : ℕ → List Check
-svnChecks satellite = 2 when ltb satellite 1 ∷ 2 when ltb 36 satellite ∷ []
-
-abbrev pub svnGstChecks : ℕ → ℕ → ℕ → List Check
-svnGstChecks satellite week time = svnChecks satellite ++ (3 when ltb 4095 week ∷ 4 when ltb 604799 time ∷ [])
 
 -- "36 word counts, each 0..15"
 unfoldable pub small : List ℕ → Bool

@@ -8,21 +8,16 @@ use mathlib.Core.Bool.{Bool, true, false, not, _&&_}
 use mathlib.Core.Path.{_≡_}
 use mathlib.Core.Logic.{_↔_}
 use lib.ListN.{length, getD, take, drop}
-use lib.Dec.{ltb, eqb}
+use lib.Dec.{eqb}
 use Rattle.layouts.specs.Answer.{Answer, refused, nothing, gives, shown, Check, _when_, refusal}
+use Rattle.layouts.specs.Gst.{svnGstChecks}
 use Rattle.subframes.specs.Subframe.{State, new, Page, Fed, wordOf, subframeOf, feed, view}
 use Rattle.runs.specs.Runs.{afterAll, goesOn, runBefore, runWith, runOf}
 use Rattle.runs.specs.Rising.{Choice, Earliest}
 
 -- A call is any page bytes, satellite, week and time. What it can be refused for after `new`, with 540 and 2,160 lent bytes, whatever came before: 12 never comes up.
 abbrev pub callChecks : Page → List Check
-callChecks p =
-    1 when not (eqb (length (p .bytes)) 5) ∷
-    2 when ltb (p .satellite) 1 ∷
-    2 when ltb 36 (p .satellite) ∷
-    3 when ltb 4095 (p .week) ∷
-    4 when ltb 604799 (p .time) ∷
-    []
+callChecks p = 1 when not (eqb (length (p .bytes)) 5) ∷ svnGstChecks (p .satellite) (p .week) (p .time)
 
 abbrev pub isAdmitted : Page → Bool
 isAdmitted p = eqb (refusal (callChecks p)) 0

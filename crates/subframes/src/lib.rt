@@ -1,5 +1,4 @@
 // A subframe from its pages, one by one and from a trace. It sees only what `layouts` promises.
-mod gst;
 mod page;
 pub mod subframe;
 pub mod trace;

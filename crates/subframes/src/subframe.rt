@@ -1,8 +1,8 @@
 // A subframe from its pages.
-use crate::gst;
 use crate::page;
 use crate::page::Entry;
 use crate::page::PageTaken;
+use layouts::gst;
 ghost use mathlib.Core.Path.{_≡_};
 ghost use mathlib.Core.List.{[]};
 ghost use mathlib.Core.Bool.{true, false};

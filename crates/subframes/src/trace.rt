@@ -1,17 +1,18 @@
 // A trace of pages in memory, fed to the subframe collector; docs/FORMATS.md has its layout. The record is checked once, then its counts are lent.
-use crate::gst;
 use crate::page;
 use crate::page::Entry;
 use crate::page::PageTaken;
 use crate::subframe;
 use crate::subframe::CollectSubframe;
 use crate::subframe::SubframeAnswer;
+use layouts::gst;
 ghost use mathlib.Core.Path.{_≡_};
 ghost use mathlib.Core.List.{List};
 ghost use Prim.Native.Nat.{ℕ, _+_, _*_, _≤_, _<_};
 ghost use lib.ListN.{length, take, drop};
 ghost use Rattle.layouts.specs.Answer.{refusal as refusalOf};
-ghost use Rattle.subframes.specs.Subframe.{svnGstChecks, recordChecks};
+ghost use Rattle.layouts.specs.Gst.{svnGstChecks};
+ghost use Rattle.subframes.specs.Subframe.{recordChecks};
 ghost use Rattle.subframes.specs.SubframePromises.{state, meaning-subframe};
 ghost use Rattle.subframes.specs.Trace.{entryAt, entries as entriesOf, feedEach, traceChecks};
 ghost use Rattle.subframes.specs.TracePromises.{outcome-all, FeedAll};
