@@ -16,9 +16,10 @@ use Rattle.subframes.specs.Subframe.{offered, feed, view}
 use Rattle.subframes.specs.Trace.{entries, FedMany, traceChecks, feedAll}
 use Rattle.subframes.specs.SubframePromises.{state, meaning-subframe, meaning-shown, outcome, sizeOf, bufferOf, FeedSubframe}
 use Rattle.subframes.specs.TracePromises.{outcome-all, FeedAll}
-use Rattle.subframes.specs.SubframeRecovery.{isAdmitted, before, run, after, noPage, Words, Alike, Viewed, Recovers}
+use Rattle.subframes.specs.SubframeRecovery.{isAdmitted, before, run, after, noPage, hasWord, Words, Alike, Viewed, Recovers}
 use Rattle.subframes.specs.SubframeHistory.{Call, one, many, Misfit, History, begun, called, misfit, looked, ShowsPair, ShowsNone, FeedRecovers}
-use Rattle.subframes.specs.SubframeHistory.{FeedAllRecovers, MisfitRefused, CodeRecovers, AnyPages, wordPage, wordsFrom, SmallestCase}
+use Rattle.subframes.specs.SubframeHistory.{FeedAllRecovers, MisfitRefused, CodeRecovers, AnyPages, wordPage, wordsFrom, WordsExample, SmallestCase}
+use Rattle.runs.proofs.Rising.{reaches}
 use Rattle.subframes.specs.declared.subframe.CollectSubframe.{CollectSubframe}
 use Rattle.subframes.specs.declared.subframe.SubframeAnswer.{SubframeAnswer}
 use Rattle.subframes.specs.declared.subframe.SubframeAnswer.the-variants.{Refused, Nothing, Complete}
@@ -226,6 +227,9 @@ not-admitted s r p f w q e = go (isAdmitted p) refl
 whole-passes : (s : State) (trace : List ℕ) → Sound s → length trace % 12 ≡ 0 → refusal (traceChecks s trace) ≡ 0
 whole-passes s trace d l = sym (whole s trace l (sound-admitted s d))
 
+pub whole-passed : {c : CollectSubframe} {h m : List ℕ} {ps : List Page} → History c h m ps → (trace : List ℕ) → length trace % 12 ≡ 0 → refusal (traceChecks (state c h m) trace) ≡ 0
+whole-passed {c} {h} {m} k trace l = whole-passes (state c h m) trace (reached-sound (reached k)) l
+
 module _ {c : CollectSubframe} {h m : List ℕ} {ps : List Page} (j : History c h m ps) (trace : List ℕ) (r : TraceFed) (h′ m′ : List ℕ) (e : FeedAll c h m trace r h′ m′) where
   abbrev s : State
   s = state c h m
@@ -312,6 +316,15 @@ any-more {c} {h} {m} {qs} k (p ∷ ps) =
 
 pub any-pages : AnyPages
 any-pages h m lh lm ps = any-more (begun (record { week = 0; subframe = 0; counts = replicate 36 0 }) h m refl lh lm) ps
+
+-- Words counted.
+pub words-example : WordsExample
+unfolding refusal
+words-example =
+    record {
+      fifteen = reaches (hasWord 7) noPage (run (wordsFrom 0 15)) 0 15 .0 (omega arith);
+      fourteen = λ w. absurd (omega (arith, reaches (hasWord 7) noPage (run (wordsFrom 0 14)) 0 15 .1 w));
+    }
 
 -- Words 0 to 6, a call that lends 539 bytes, words 7 to 14.
 fourteen-then : (f : Fed) → Alike f (feed (after (new (replicate 540 0) (replicate 2160 0)) (before (run (wordsFrom 0 14)) (wordPage 14))) (wordPage 14))

@@ -150,6 +150,11 @@ abbrev pub wordsFrom : ℕ → ℕ → List Page
 wordsFrom word zero = []
 wordsFrom word (suc n) = wordPage word ∷ wordsFrom (suc word) n
 
+-- Fifteen of them contain words 0 to 14 in that order, fourteen do not.
+pub record WordsExample : Type 0 where
+  pub fifteen : Words 7 (run (wordsFrom 0 15))
+  pub fourteen : Words 7 (run (wordsFrom 0 14)) → ⊥
+
 -- The smallest case of a refused call in the middle: words 0 to 6, one call that lends 539 HKROOT bytes, words 7 to 14. The pair comes out.
 pub record SmallestCase : Type 0 where
   -- it is refused, and the history goes on with the words that it had

@@ -7,7 +7,7 @@ ghost use Prim.Native.Nat.{ℕ, _+_, _<_};
 ghost use lib.ListN.{length, getD, set};
 ghost use Rattle.layouts.specs.Answer.{refusal as refusalOf};
 ghost use Rattle.subframes.specs.Subframe.{feedChecks, changed, put4};
-ghost use Rattle.subframes.specs.PageInner.{pageOf, stateOf, Offered, PageFed};
+ghost use Rattle.subframes.specs.inner.Page.{pageOf, stateOf, Offered, PageFed};
 
 // Whose page it is, and when it came.
 pub(crate) struct Entry {

@@ -16,8 +16,8 @@ ghost use Rattle.subframes.specs.Subframe.{recordChecks};
 ghost use Rattle.subframes.specs.SubframePromises.{state, meaning-subframe};
 ghost use Rattle.subframes.specs.Trace.{entryAt, entries as entriesOf, feedEach, traceChecks};
 ghost use Rattle.subframes.specs.TracePromises.{outcome-all, FeedAll};
-ghost use Rattle.subframes.specs.TraceInner.{completesOf, endsWith, fedOf};
-ghost use Rattle.subframes.specs.PageInner.{pageOf};
+ghost use Rattle.subframes.specs.inner.Trace.{completesOf, endsWith, fedOf};
+ghost use Rattle.subframes.specs.inner.Page.{pageOf};
 
 pub struct TraceFed {
     pub collector: CollectSubframe,

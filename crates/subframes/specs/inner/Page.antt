@@ -1,4 +1,4 @@
--- What functions of `page` need and do. No promise of a public function cites this file.
+-- What functions of `page` need and do.
 -- Assumes nothing.
 use Prim.Native.Nat.{ℕ, _*_}
 use mathlib.Core.Path.{_≡_}
