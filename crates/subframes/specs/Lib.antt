@@ -1,3 +1,4 @@
+pub mod Agreed
 pub mod Subframe
 pub mod SubframeHistory
 pub mod SubframePromises
