@@ -1,5 +1,5 @@
--- Document 01, "How far each promise reaches": "show that any two answers satisfying it agree". A line for each public function: the answer, the record and every
--- lent byte are fixed by its promise.
+-- Document 01, "How far each promise reaches": "show that any two answers satisfying it agree". A line for each public function: its promise fixes the
+-- answer, the record and every lent byte.
 -- Assumes nothing.
 use Prim.Native.Nat.{ℕ}
 use mathlib.Core.List.{List}

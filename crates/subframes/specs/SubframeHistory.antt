@@ -1,5 +1,6 @@
--- Demand 3, for subframes, of the code: "A collector, new at the start, recovers. Let pages be lost, doubled, reordered or altered, the clock jump and calls be
--- refused, with record and memory changed by these calls only." What holds of any history of calls of the public functions, each of which did what it promises.
+-- Demand 3, for subframes, of the code: "A collector, new at the start, recovers. Let pages be lost, doubled, reordered or altered, the clock jump and
+-- calls be refused, with record and memory changed by these calls only." What holds of any history of calls of the public functions, each of which did what
+-- it promises.
 -- Assumes nothing.
 use Prim.Native.Nat.{ℕ, zero, suc, _+_, _-_, _*_, _%_, _≤_, _<_}
 use mathlib.Core.List.{List, [], _∷_, _++_}
@@ -55,8 +56,8 @@ pub data History : CollectSubframe → List ℕ → List ℕ → List Page → T
   -- a call with the record and the memory as they are
   called : {c c′ : CollectSubframe} {hkroot mack hkroot′ mack′ : List ℕ} {ps qs : List Page} {a : SubframeAnswer} → History c hkroot mack ps
       → Call c hkroot mack qs a c′ hkroot′ mack′ → History c′ hkroot′ mack′ (ps ++ qs)
-  -- a call that was lent bytes x and y of other lengths, wherever they lie: `hkroot` and `mack` say what the memory is where the lent bytes are these (it holds
-  -- them as a part, or they lie elsewhere and it does not depend on them)
+  -- a call that was lent bytes x and y of other lengths, wherever they lie: `hkroot` and `mack` say what the memory is where the lent bytes are these (it
+  -- holds them as a part, or they lie elsewhere and it does not depend on them)
   misfit : {c c′ : CollectSubframe} {x y x′ y′ : List ℕ} {ps qs : List Page} {a : SubframeAnswer} (hkroot mack : List ℕ → List ℕ → List ℕ)
       → History c (hkroot x y) (mack x y) ps → Misfit x y → Call c x y qs a c′ x′ y′ → History c′ (hkroot x′ y′) (mack x′ y′) ps
   -- a call that only reads, whatever bytes it was lent

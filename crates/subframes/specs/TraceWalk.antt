@@ -1,5 +1,5 @@
--- A whole trace: `feed_all` called again and again, each time with the entries that are left (docs/FORMATS.md, "A trace of pages"), stepping over each entry that
--- it refuses, gives all entries' answers in their order, as `feed` gives them.
+-- A whole trace: `feed_all` called again and again, each time with the entries that are left (docs/FORMATS.md, "A trace of pages"), stepping over each entry
+-- that it refuses, gives all entries' answers in their order, as `feed` gives them.
 -- Assumes nothing.
 use Prim.Native.Nat.{ℕ, _+_, _-_, _*_, _%_, _≤_, _<_}
 use mathlib.Core.List.{List, [], _∷_, _++_}
@@ -20,8 +20,8 @@ abbrev pub answers : State → List Page → List Answer
 answers s [] = []
 answers s (p ∷ ps) = feed s p .answer ∷ answers (feed s p .state) ps
 
--- What one call tells of the entries that it was given: those that it consumed brought nothing, but for a last one that completed a subframe. Where it refuses,
--- it tells of the first entry alone, and the caller steps over that.
+-- What one call tells of the entries that it was given: those that it consumed brought nothing, but for a last one that completed a subframe. Where it
+-- refuses, it tells of the first entry alone, and the caller steps over that.
 abbrev pub told : ℕ → Answer → List Answer
 told n (refused q) = refused q ∷ []
 told n nothing = replicate n nothing
@@ -38,8 +38,8 @@ pub data Walk (trace : List ℕ) (c : CollectSubframe) (hkroot mack : List ℕ) 
       → Walk trace c hkroot mack (k + length (tells r)) (done ++ tells r) (r .collector) x′ y′
 
 -- What holds of such calls, where those before had the pages ps.
-pub record Walks (trace : List ℕ) (c : CollectSubframe) (hkroot mack : List ℕ) (ps : List Page) (k : ℕ) (done : List Answer) (d : CollectSubframe) (x y : List ℕ)
-    : Type 0 where
+pub record Walks (trace : List ℕ) (c : CollectSubframe) (hkroot mack : List ℕ) (ps : List Page) (k : ℕ) (done : List Answer) (d : CollectSubframe)
+    (x y : List ℕ) : Type 0 where
   pub inside : k ≤ length (entries trace)
   -- record and memory, and the answers in their order, are those of the first k entries fed one by one
   pub state-is : state d x y ≡ after (state c hkroot mack) (take k (entries trace))

@@ -27,4 +27,6 @@ pub record Joined (a b c d r : ℕ) : Type 0 where
 
 -- eight elements from place i on
 abbrev pub eightOf : List ℕ → ℕ → List ℕ
-eightOf l i = getD l i 0 ∷ getD l (i + 1) 0 ∷ getD l (i + 2) 0 ∷ getD l (i + 3) 0 ∷ getD l (i + 4) 0 ∷ getD l (i + 5) 0 ∷ getD l (i + 6) 0 ∷ getD l (i + 7) 0 ∷ []
+eightOf l i =
+    getD l i 0 ∷ getD l (i + 1) 0 ∷ getD l (i + 2) 0 ∷ getD l (i + 3) 0 ∷
+    getD l (i + 4) 0 ∷ getD l (i + 5) 0 ∷ getD l (i + 6) 0 ∷ getD l (i + 7) 0 ∷ []
