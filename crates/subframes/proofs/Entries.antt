@@ -92,63 +92,100 @@ page-part trace k = let e : 12 * k + 12 - (12 * k + 7) ≡ 5 = omega arith in rw
 page-5 : (trace : List ℕ) (k : ℕ) → k < length trace / 12 → length (pagePart trace k) ≡ 5
 page-5 trace k h = simp (length-take, length-drop) (omega arith)
 
-module _ {s₀ s : State} {trace : List ℕ} {k : ℕ} (d : Left s₀ trace k s) where
-  pub turn-none : {x : FedMany} → length trace / 12 ≤ k → x ≡ record { state = s; answer = nothing; consumed = k } → x ≡ feedEach 0 s₀ (entries trace)
-  unfolding feedEach
-  turn-none h ex = ex ∙ rw (entries-none trace k (length trace / 12) h) at (d .rest)
+pub turn-none : {s₀ s : State} {trace : List ℕ} {k : ℕ} → Left s₀ trace k s → {x : FedMany} → length trace / 12 ≤ k
+    → x ≡ record { state = s; answer = nothing; consumed = k } → x ≡ feedEach 0 s₀ (entries trace)
+unfolding feedEach
+turn-none {trace = trace} {k = k} d h ex = ex ∙ rw (entries-none trace k (length trace / 12) h) at (d .rest)
 
-  module _ (e : Entry) (h : k < length trace / 12) (pe : pageOf e (take 5 (drop (12 * k + 7) trace)) ≡ entryAt trace k) {q : ℕ} (eq : q ≡ refusal (svnGstChecks (e .satellite) (e .week) (e .time))) where
-    later : List Page
-    later = entriesFrom trace (k + 1) (length trace / 12 - (k + 1))
+-- A turn: entry k is e, and q is its refusal number.
+pub record Turn : Type 0 where
+  pub s₀ : State
+  pub s : State
+  pub trace : List ℕ
+  pub k : ℕ
+  pub e : Entry
+  pub q : ℕ
+  pub left : Left s₀ trace k s
+  pub inside : k < length trace / 12
+  pub entry-is : pageOf e (take 5 (drop (12 * k + 7) trace)) ≡ entryAt trace k
+  pub number-is : q ≡ refusal (svnGstChecks (e .satellite) (e .week) (e .time))
 
-    the-page : entryAt trace k ≡ pageOf e (pagePart trace k)
-    the-page = sym (ap (pageOf e) (page-part trace k) ∙ pe)
+module _ (t : Turn) where
+  abbrev page : Page
+  page = pageOf (t .e) (pagePart (t .trace) (t .k))
 
-    ahead : feedEach k s (pageOf e (pagePart trace k) ∷ later) ≡ feedEach 0 s₀ (entries trace)
-    unfolding later
-    ahead = rw (← the-page, ← entries-more trace k (length trace / 12) h) (d .rest)
+  later : List Page
+  later = entriesFrom (t .trace) (t .k + 1) (length (t .trace) / 12 - (t .k + 1))
 
-    number : q ≡ refusal (feedChecks s (pageOf e (pagePart trace k)))
-    number = entry-refusal s (pageOf e (pagePart trace k)) (d .fine) (page-5 trace k h) eq
+  the-page : entryAt (t .trace) (t .k) ≡ page
+  the-page = sym (ap (pageOf (t .e)) (page-part (t .trace) (t .k)) ∙ t .entry-is)
 
-    pub turn-ends : {x : FedMany} {a : Answer} → (q ≡ 0 → ⊥) → a ≡ endsWith k q → x ≡ record { state = s; answer = a; consumed = k } → x ≡ feedEach 0 s₀ (entries trace)
-    turn-ends ne ea ex = ex ∙ rw ea (each-ends k s (pageOf e (pagePart trace k)) later number ne ∙ ahead)
+  ahead : feedEach (t .k) (t .s) (page ∷ later) ≡ feedEach 0 (t .s₀) (entries (t .trace))
+  unfolding later
+  ahead = rw (← the-page, ← entries-more (t .trace) (t .k) (length (t .trace) / 12) (t .inside)) (t .left .rest)
 
-    module _ (z : q ≡ 0) where
-      pub turn-asks : refusal (feedChecks s (pageOf e (pagePart trace k))) ≡ 0
-      turn-asks = sym number ∙ z
+  number : t .q ≡ refusal (feedChecks (t .s) page)
+  number = entry-refusal (t .s) page (t .left .fine) (page-5 (t .trace) (t .k) (t .inside)) (t .number-is)
 
-      pub turn-time : e .time ≤ 604799
-      turn-time = fine s (pageOf e (pagePart trace k)) number z .in-week
+  pub turn-ends : {x : FedMany} {a : Answer} → (t .q ≡ 0 → ⊥) → a ≡ endsWith (t .k) (t .q) → x ≡ record { state = t .s; answer = a; consumed = t .k }
+      → x ≡ feedEach 0 (t .s₀) (entries (t .trace))
+  turn-ends ne ea ex = ex ∙ rw ea (each-ends (t .k) (t .s) page later number ne ∙ ahead)
 
-      module _ (r : PageTaken) {cs hk mk : List ℕ} (f : PageFed s (pageOf e (pagePart trace k)) r cs hk mk) where
-        pub turn-completes : {x : FedMany} {a : Answer} → completesOf r ≡ true → a ≡ answerOf r (e .week) (e .time / 30)
-            → x ≡ record { state = stateOf (e .week) (e .time / 30) cs hk mk; answer = a; consumed = k + 1 } → x ≡ feedEach 0 s₀ (entries trace)
-        turn-completes c ea ex =
-            ex ∙ rw (ea, is-gives r c) (each-completes k s (pageOf e (pagePart trace k)) later (f .fed) (is-gives r c) ∙ ahead)
-          where
-            is-gives : (r : PageTaken) → completesOf r ≡ true → answerOf r (e .week) (e .time / 30) ≡ gives (e .week ∷ 30 * (e .time / 30) ∷ [])
-            is-gives Unused c = cc
-            is-gives Used c = cc
-            is-gives Completes c = refl
+  module _ (z : t .q ≡ 0) where
+    pub turn-asks : refusal (feedChecks (t .s) page) ≡ 0
+    turn-asks = sym number ∙ z
 
-        pub turn-sound : Sound (stateOf (e .week) (e .time / 30) cs hk mk)
-        turn-sound = subst (λ (x : Fed). Sound (x .state)) (sym (f .fed)) (sound-fed s (pageOf e (pagePart trace k)) (d .fine))
+    pub turn-time : t .e .time ≤ 604799
+    turn-time = fine (t .s) page number z .in-week
 
-        pub turn-goes-on : completesOf r ≡ false → Left s₀ trace (k + 1) (stateOf (e .week) (e .time / 30) cs hk mk)
-        unfolding later
-        turn-goes-on c =
-            record {
-              few = omega arith;
-              first = d .first;
-              fine = turn-sound;
-              rest = each-goes-on k s (pageOf e (pagePart trace k)) later (f .fed) (is-nothing r c) ∙ ahead;
-            }
-          where
-            is-nothing : (r : PageTaken) → completesOf r ≡ false → answerOf r (e .week) (e .time / 30) ≡ nothing
-            is-nothing Unused c = refl
-            is-nothing Used c = refl
-            is-nothing Completes c = cc
+-- A turn whose page was taken.
+pub record Taken : Type 0 where
+  pub turn : Turn
+  pub passed : turn .q ≡ 0
+  pub r : PageTaken
+  pub counts : List ℕ
+  pub hkroot : List ℕ
+  pub mack : List ℕ
+  pub fed : PageFed (turn .s) (pageOf (turn .e) (pagePart (turn .trace) (turn .k))) r counts hkroot mack
+
+module _ (w : Taken) where
+  abbrev t : Turn
+  t = w .turn
+
+  abbrev e : Entry
+  e = w .turn .e
+
+  -- the state then
+  abbrev then : State
+  then = stateOf (e .week) (e .time / 30) (w .counts) (w .hkroot) (w .mack)
+
+  pub turn-completes : {x : FedMany} {a : Answer} → completesOf (w .r) ≡ true → a ≡ answerOf (w .r) (e .week) (e .time / 30)
+      → x ≡ record { state = then; answer = a; consumed = t .k + 1 } → x ≡ feedEach 0 (t .s₀) (entries (t .trace))
+  turn-completes c ea ex =
+      ex ∙ rw (ea, is-gives (w .r) c) (each-completes (t .k) (t .s) (page t) (later t) (w .fed .fed) (is-gives (w .r) c) ∙ ahead t)
+    where
+      is-gives : (r : PageTaken) → completesOf r ≡ true → answerOf r (e .week) (e .time / 30) ≡ gives (e .week ∷ 30 * (e .time / 30) ∷ [])
+      is-gives Unused c = cc
+      is-gives Used c = cc
+      is-gives Completes c = refl
+
+  pub turn-sound : Sound then
+  turn-sound = subst (λ (x : Fed). Sound (x .state)) (sym (w .fed .fed)) (sound-fed (t .s) (page t) (t .left .fine))
+
+  pub turn-goes-on : completesOf (w .r) ≡ false → Left (t .s₀) (t .trace) (t .k + 1) then
+  unfolding later
+  turn-goes-on c =
+      record {
+        few = omega (arith, t .inside);
+        first = t .left .first;
+        fine = turn-sound;
+        rest = each-goes-on (t .k) (t .s) (page t) (later t) (w .fed .fed) (is-nothing (w .r) c) ∙ ahead t;
+      }
+    where
+      is-nothing : (r : PageTaken) → completesOf r ≡ false → answerOf r (e .week) (e .time / 30) ≡ nothing
+      is-nothing Unused c = refl
+      is-nothing Used c = refl
+      is-nothing Completes c = cc
 
 -- The whole call.
 module _ (s : State) (trace : List ℕ) {q : ℕ} (e : q ≡ refusal (traceChecks s trace)) where
