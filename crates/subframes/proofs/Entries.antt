@@ -31,7 +31,9 @@ module _ (s : State) (trace : List ℕ) where
   whole e h = rw (eq-eqb (length trace % 12) 0 e) h
 
 -- of a record that is not refused only the entry can be
-pub entry-refusal : (s : State) (p : Page) {q : ℕ} → Sound s → length (p .bytes) ≡ 5 → q ≡ refusal (svnGstChecks (p .satellite) (p .week) (p .time)) → q ≡ refusal (feedChecks s p)
+pub entry-refusal :
+    (s : State) (p : Page) {q : ℕ} → Sound s → length (p .bytes) ≡ 5 → q ≡ refusal (svnGstChecks (p .satellite) (p .week) (p .time))
+    → q ≡ refusal (feedChecks s p)
 unfolding refusal
 entry-refusal s p d l e = rw (eq-eqb (length (p .bytes)) 5 l) (e ∙ sym (sound-passes s d (svnGstChecks (p .satellite) (p .week) (p .time))))
 
@@ -52,7 +54,9 @@ entry-is trace k e f = rw (e, f)
 
 -- Entries one by one.
 module _ (n : ℕ) (s : State) (p : Page) (ps : List Page) where
-  each-ends : {q : ℕ} → q ≡ refusal (feedChecks s p) → (q ≡ 0 → ⊥) → _≡_ {A = FedMany} (record { state = s; answer = endsWith n q; consumed = n }) (feedEach n s (p ∷ ps))
+  each-ends :
+      {q : ℕ} → q ≡ refusal (feedChecks s p) → (q ≡ 0 → ⊥)
+      → _≡_ {A = FedMany} (record { state = s; answer = endsWith n q; consumed = n }) (feedEach n s (p ∷ ps))
   unfolding feedEach
   each-ends e ne = rw (← feed-refused s p e ne)
 
@@ -60,7 +64,9 @@ module _ (n : ℕ) (s : State) (p : Page) (ps : List Page) where
   unfolding feedEach
   each-goes-on e a = let b : feed s p .answer ≡ nothing = sym (ap (λ (x : Fed). x .answer) e) ∙ a in rw (b, ap (λ (x : Fed). x .state) e)
 
-  each-completes : {f : Fed} {l : List ℕ} → f ≡ feed s p → f .answer ≡ gives l → _≡_ {A = FedMany} (record { state = f .state; answer = gives l; consumed = n + 1 }) (feedEach n s (p ∷ ps))
+  each-completes :
+      {f : Fed} {l : List ℕ} → f ≡ feed s p → f .answer ≡ gives l
+      → _≡_ {A = FedMany} (record { state = f .state; answer = gives l; consumed = n + 1 }) (feedEach n s (p ∷ ps))
   unfolding feedEach
   each-completes {f} {l} e a = let b : feed s p .answer ≡ gives l = sym (ap (λ (x : Fed). x .answer) e) ∙ a in rw (b, ap (λ (x : Fed). x .state) e)
 
@@ -80,7 +86,8 @@ pub record Left (s₀ : State) (trace : List ℕ) (k : ℕ) (s : State) : Type 0
   pub rest : feedEach k s (entriesFrom trace k (length trace / 12 - k)) ≡ feedEach 0 s₀ (entries trace)
 
 pub turn-first : (s : State) (trace : List ℕ) → refusal (recordChecks s) ≡ 0 → Left s trace 0 s
-turn-first s trace z = let e : length trace / 12 - 0 ≡ length trace / 12 = omega arith in record { few = omega arith; first = sound s z; fine = sound s z; rest = rw e }
+turn-first s trace z =
+    let e : length trace / 12 - 0 ≡ length trace / 12 = omega arith in record { few = omega arith; first = sound s z; fine = sound s z; rest = rw e }
 
 -- the page of entry k, as the code cuts it out
 abbrev pagePart : List ℕ → ℕ → List ℕ

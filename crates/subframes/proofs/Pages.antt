@@ -12,7 +12,7 @@ use Rattle.layouts.specs.Answer.{Answer, refused, nothing, gives, Check, refusa
 use Rattle.layouts.specs.Gst.{svnChecks, svnGstChecks}
 use Rattle.layouts.proofs.Answers.{none-fails, stopped, went-on, copied-refused, copied-bytes}
 use Rattle.subframes.specs.Subframe.{State, Page, Fed, WordStep, wordOf, subframeOf, small, rangeChecks, recordChecks, viewChecks}
-use Rattle.subframes.specs.Subframe.{askChecks, feedChecks, takeWord, changed, put4, answerAt, used, offered, isUsed, feed, usedAnswer, view}
+use Rattle.subframes.specs.Subframe.{askChecks, feedChecks, takeWord, fresh, changed, put4, answerAt, used, offered, isUsed, feed, usedAnswer, view}
 use Rattle.subframes.specs.inner.Page.{pageOf, stateOf, answerOf, usedOf, Offered, PageFed}
 use Rattle.subframes.specs.SubframePromises.{state, TakeWord, meaning-word, sizeOf, bufferOf, meaning-shown, ViewSubframeShown, ViewSubframe}
 use Rattle.subframes.specs.declared.page.Entry.{Entry}
@@ -96,10 +96,15 @@ module _ (s : State) (p : Page) where
     admitted z h = rw (eq-eqb (length (p .bytes)) 5 l) (went-on (recordChecks s) asked tt e z h)
 
 -- what holds of a satellite that may be asked for
-pub seen-satellite : (s : State) (n : ℕ) {q : ℕ} → q ≡ refusal (viewChecks s n) → q ≡ 0 → (1 ≤ n) × (n ≤ 36) × (length (s .hkroot) ≡ 540) × (length (s .mack) ≡ 2160)
+pub seen-satellite :
+    (s : State) (n : ℕ) {q : ℕ} → q ≡ refusal (viewChecks s n) → q ≡ 0 → (1 ≤ n) × (n ≤ 36) × (length (s .hkroot) ≡ 540) × (length (s .mack) ≡ 2160)
 seen-satellite s n e z =
-    let f = none-fails (viewChecks s n) tt (sym e ∙ z) in
-    (ltb-false n 1 (f .1 .1 .1 .1 .1 .0), ltb-false 36 n (f .1 .1 .1 .1 .1 .1 .0), eqb-true (length (s .hkroot)) 540 (not-false _ (f .0)), eqb-true (length (s .mack)) 2160 (not-false _ (f .1 .0)))
+    let f = none-fails (viewChecks s n) tt (sym e ∙ z) in (
+      ltb-false n 1 (f .1 .1 .1 .1 .1 .0),
+      ltb-false 36 n (f .1 .1 .1 .1 .1 .1 .0),
+      eqb-true (length (s .hkroot)) 540 (not-false _ (f .0)),
+      eqb-true (length (s .mack)) 2160 (not-false _ (f .1 .0)),
+    )
 
 -- what holds of a page that is not refused
 pub record Fine (s : State) (p : Page) : Type 0 where
@@ -169,7 +174,8 @@ module _ (n w : ℕ) (x : WordTaken) (e : TakeWord n w x) (h : w < 15) where
       go false q = refl
       go true q =
           let same : w ≡ n = eqb-true w n q in
-          let next : meaning-word (x .answer) ≡ gives [] = ap (λ (y : WordStep). y .answer) e ∙ sym (ap (λ (y : WordStep). y .answer) (word-next n w (omega arith) (omega arith) same)) in
+          let step = word-next n w (omega arith) (omega arith) same in
+          let next : meaning-word (x .answer) ≡ gives [] = ap (λ (y : WordStep). y .answer) (e ∙ sym step) in
           absurd (ne (rw u at next))
 
   pub took-unused : x .answer ≡ WordUnused → eqb w n ≡ false
@@ -180,11 +186,11 @@ module _ (n w : ℕ) (x : WordTaken) (e : TakeWord n w x) (h : w < 15) where
 
 -- A change of week or subframe.
 module _ (s : State) (week subframe : ℕ) where
-  pub other-week-taken : (s .week ≡ week → ⊥) → _≡_ {A = State} (record { week = week; subframe = subframe; counts = replicate 36 0; hkroot = s .hkroot; mack = s .mack }) (changed s week subframe)
+  pub other-week-taken : (s .week ≡ week → ⊥) → fresh s week subframe ≡ changed s week subframe
   unfolding changed
   other-week-taken ne = rw (ne-eqb (s .week) week ne)
 
-  pub other-subframe-taken : s .week ≡ week → (s .subframe ≡ subframe → ⊥) → _≡_ {A = State} (record { week = week; subframe = subframe; counts = replicate 36 0; hkroot = s .hkroot; mack = s .mack }) (changed s week subframe)
+  pub other-subframe-taken : s .week ≡ week → (s .subframe ≡ subframe → ⊥) → fresh s week subframe ≡ changed s week subframe
   unfolding changed
   other-subframe-taken e ne = rw (eq-eqb (s .week) week e, ne-eqb (s .subframe) subframe ne)
 
@@ -193,7 +199,9 @@ module _ (s : State) (week subframe : ℕ) where
   unchanged e f = rw (eq-eqb (s .week) week e, eq-eqb (s .subframe) subframe f)
 
 -- no change leaves lent counts
-pub same-subframe : {week subframe to-week to-subframe : ℕ} (counts h m : List ℕ) → week ≡ to-week → subframe ≡ to-subframe → stateOf to-week to-subframe counts h m ≡ changed (stateOf week subframe counts h m) to-week to-subframe
+pub same-subframe :
+    {week subframe to-week to-subframe : ℕ} (counts h m : List ℕ) → week ≡ to-week → subframe ≡ to-subframe
+    → stateOf to-week to-subframe counts h m ≡ changed (stateOf week subframe counts h m) to-week to-subframe
 unfolding changed
 same-subframe {week} {subframe} counts h m e f = rw (← e, ← f, eq-eqb week week refl, eq-eqb subframe subframe refl)
 
@@ -210,8 +218,12 @@ pub answer-completes : (week subframe : ℕ) {r : PageTaken} → r ≡ Completes
 answer-completes week subframe e = rw e
 
 module _ (s : State) (bytes : List ℕ) (i w : ℕ) where
-  pub used-is : {h m : List ℕ} {a : Answer} {n : ℕ} → h ≡ set (s .hkroot) (15 * i + w) (getD bytes 0 0) → m ≡ put4 (s .mack) (60 * i + 4 * w) bytes → n ≡ w + 1 → a ≡ answerAt n (s .week) (s .subframe)
-      → _≡_ {A = Fed} (record { state = record { week = s .week; subframe = s .subframe; counts = set (s .counts) i n; hkroot = h; mack = m }; answer = a }) (used s bytes i w)
+  pub used-is :
+      {h m : List ℕ} {a : Answer} {n : ℕ} → h ≡ set (s .hkroot) (15 * i + w) (getD bytes 0 0) → m ≡ put4 (s .mack) (60 * i + 4 * w) bytes → n ≡ w + 1
+      → a ≡ answerAt n (s .week) (s .subframe)
+      → _≡_ {A = Fed}
+      (record { state = record { week = s .week; subframe = s .subframe; counts = set (s .counts) i n; hkroot = h; mack = m }; answer = a })
+      (used s bytes i w)
   unfolding used
   used-is eh em en ea = rw (eh, em, ea, en)
 
@@ -238,13 +250,18 @@ module _ (counts h m bytes : List ℕ) (i w : ℕ) where
     pub count-rises : x .answer ≡ WordUsed → (x .next .words ≡ w + 1) × (getD counts i 0 ≡ w)
     count-rises u = let t = took-next (getD counts i 0) w x e few u in (t .1, sym (eqb-true w (getD counts i 0) (t .0)))
 
-  module _ {x y : List ℕ} {n : ℕ} (same : getD counts i 0 ≡ w) (en : n ≡ w + 1) (ex : x ≡ set h (15 * i + w) (getD bytes 0 0)) (ey : y ≡ put4 m (4 * (15 * i + w)) bytes) where
-    next : (r : PageTaken) → ((week subframe : ℕ) → answerOf r week subframe ≡ answerAt n week subframe) → usedOf r ≡ true → Offered counts h m bytes i w r (set counts i n) x y
+  module _ {x y : List ℕ} {n : ℕ} (same : getD counts i 0 ≡ w) (en : n ≡ w + 1) (ex : x ≡ set h (15 * i + w) (getD bytes 0 0))
+      (ey : y ≡ put4 m (4 * (15 * i + w)) bytes) where
+    next :
+        (r : PageTaken) → ((week subframe : ℕ) → answerOf r week subframe ≡ answerAt n week subframe) → usedOf r ≡ true
+        → Offered counts h m bytes i w r (set counts i n) x y
     next r ea u =
         let e : eqb w (getD counts i 0) ≡ true = eq-eqb w (getD counts i 0) (sym same) in
         let place : 4 * (15 * i + w) ≡ 60 * i + 4 * w = omega arith in
         record {
-          fed = λ week subframe. offered-used (stateOf week subframe counts h m) bytes i w e (used-is (stateOf week subframe counts h m) bytes i w ex (rw place at ey) en (ea week subframe));
+          fed =
+              λ week subframe. offered-used (stateOf week subframe counts h m) bytes i w e
+              (used-is (stateOf week subframe counts h m) bytes i w ex (rw place at ey) en (ea week subframe));
           is-used = u ∙ sym e;
         }
 
@@ -260,19 +277,25 @@ module _ (s : State) (p : Page) {q : ℕ} (e : q ≡ refusal (feedChecks s p)) w
   unfolding feed
   feed-refused ne = rw (← e, ne-eqb q 0 ne)
 
-  pub feed-admitted : {f : Fed} {t : State} → q ≡ 0 → t ≡ changed s (p .week) (subframeOf (p .time)) → f ≡ offered t (p .bytes) (p .satellite - 1) (wordOf (p .time)) → f ≡ feed s p
+  pub feed-admitted :
+      {f : Fed} {t : State} → q ≡ 0 → t ≡ changed s (p .week) (subframeOf (p .time)) → f ≡ offered t (p .bytes) (p .satellite - 1) (wordOf (p .time))
+      → f ≡ feed s p
   unfolding feed
   feed-admitted z et g =
       let whole : feed s p ≡ offered (changed s (p .week) (subframeOf (p .time))) (p .bytes) (p .satellite - 1) (wordOf (p .time)) = rw (← e, z) in
       g ∙ ap (λ (t : State). offered t (p .bytes) (p .satellite - 1) (wordOf (p .time))) et ∙ sym whole
 
 -- an admitted page at lent counts
-module _ (week subframe : ℕ) (counts h m : List ℕ) (e : Entry) (bytes : List ℕ) (z : refusal (feedChecks (stateOf week subframe counts h m) (pageOf e bytes)) ≡ 0) where
+module _ (week subframe : ℕ) (counts h m : List ℕ) (e : Entry) (bytes : List ℕ)
+    (z : refusal (feedChecks (stateOf week subframe counts h m) (pageOf e bytes)) ≡ 0) where
   pub admitted-entry : Fine (stateOf week subframe counts h m) (pageOf e bytes)
   admitted-entry = fine (stateOf week subframe counts h m) (pageOf e bytes) (sym z) refl
 
-  pub page-fed : {cs cs′ h′ m′ : List ℕ} {r : PageTaken} → ((h m : List ℕ) → stateOf (e .week) (e .time / 30) cs h m ≡ changed (stateOf week subframe counts h m) (e .week) (e .time / 30))
-      → Offered cs h m bytes (e .satellite - 1) (e .time / 2 - 15 * (e .time / 30)) r cs′ h′ m′ → PageFed (stateOf week subframe counts h m) (pageOf e bytes) r cs′ h′ m′
+  pub page-fed :
+      {cs cs′ h′ m′ : List ℕ} {r : PageTaken}
+      → ((h m : List ℕ) → stateOf (e .week) (e .time / 30) cs h m ≡ changed (stateOf week subframe counts h m) (e .week) (e .time / 30))
+      → Offered cs h m bytes (e .satellite - 1) (e .time / 2 - 15 * (e .time / 30)) r cs′ h′ m′
+      → PageFed (stateOf week subframe counts h m) (pageOf e bytes) r cs′ h′ m′
   unfolding isUsed
   page-fed {cs} {cs′} {h′} {m′} {r} er o =
       let word : e .time / 2 - 15 * (e .time / 30) ≡ wordOf (e .time) = omega arith in
@@ -308,10 +331,7 @@ asked-is s p z =
 
 -- a page's word against the count of its satellite, which is 0 after a change
 module _ (s : State) (p : Page) (z : refusal (askChecks s p) ≡ 0) where
-  abbrev fresh : State
-  fresh = record { week = p .week; subframe = subframeOf (p .time); counts = replicate 36 0; hkroot = s .hkroot; mack = s .mack }
-
-  none-yet : fresh ≡ changed s (p .week) (subframeOf (p .time)) → eqb (wordOf (p .time)) 0 ≡ isUsed s p
+  none-yet : fresh s (p .week) (subframeOf (p .time)) ≡ changed s (p .week) (subframeOf (p .time)) → eqb (wordOf (p .time)) 0 ≡ isUsed s p
   unfolding isUsed
   none-yet e =
       ap (eqb (wordOf (p .time))) (sym (getD-replicate 36 (p .satellite - 1) 0 0 (omega (arith, asked-is s p z .0, asked-is s p z .1))))
@@ -345,7 +365,9 @@ module _ (s : State) (size n : ℕ) {q : ℕ} (e : q ≡ refusal (viewChecks s n
     view-15 h g = rw (← e, z, eq-eqb (getD (s .counts) (n - 1) 0) 15 h, g)
 
 -- a message lies within its buffer
-pub message-room : (m : Message) (h k : List ℕ) {b : ℕ} (n : ℕ) → b ≡ sizeOf m → length h ≡ 540 → length k ≡ 2160 → 1 ≤ n → n ≤ 36 → (b * (n - 1) ≤ 2160) × (b * (n - 1) + b ≤ length (bufferOf m h k))
+pub message-room :
+    (m : Message) (h k : List ℕ) {b : ℕ} (n : ℕ) → b ≡ sizeOf m → length h ≡ 540 → length k ≡ 2160 → 1 ≤ n → n ≤ 36
+    → (b * (n - 1) ≤ 2160) × (b * (n - 1) + b ≤ length (bufferOf m h k))
 message-room Hkroot h k n e lh lk s f = (rw e (omega arith), rw e (omega arith))
 message-room Mack h k n e lh lk s f = (rw e (omega arith), rw e (omega arith))
 
@@ -368,22 +390,29 @@ module _ {p : SubframeShown} where
     part-refused e = rw e
 
 -- what the question tells of lies in the buffer
-view-lies : (h m : List ℕ) (s : State) (k : Message) (n : ℕ) → s .hkroot ≡ h → s .mack ≡ m → {first many : ℕ} → gives (first ∷ many ∷ []) ≡ view s (sizeOf k) n → first + many ≤ length (bufferOf k h m)
+view-lies :
+    (h m : List ℕ) (s : State) (k : Message) (n : ℕ) → s .hkroot ≡ h → s .mack ≡ m → {first many : ℕ}
+    → gives (first ∷ many ∷ []) ≡ view s (sizeOf k) n → first + many ≤ length (bufferOf k h m)
 unfolding view
 view-lies h m s k n eh em e = go (refusal (viewChecks s n)) refl (eqb (getD (s .counts) (n - 1) 0) 15) e
   where
-    go : (q : ℕ) → q ≡ refusal (viewChecks s n) → (b : Bool) → {first many : ℕ} → gives (first ∷ many ∷ []) ≡ cond (eqb q 0) (cond b (gives (sizeOf k * (n - 1) ∷ sizeOf k ∷ [])) nothing) (refused q)
+    go :
+        (q : ℕ) → q ≡ refusal (viewChecks s n) → (b : Bool) → {first many : ℕ}
+        → gives (first ∷ many ∷ []) ≡ cond (eqb q 0) (cond b (gives (sizeOf k * (n - 1) ∷ sizeOf k ∷ [])) nothing) (refused q)
         → first + many ≤ length (bufferOf k h m)
     go zero e true {first} {many} f =
         let i = seen-satellite s n e refl in
-        let room : sizeOf k * (n - 1) + sizeOf k ≤ length (bufferOf k h m) = message-room k h m n refl (sym (ap length eh) ∙ i .2) (sym (ap length em) ∙ i .3) (i .0) (i .1) .1 in
+        let room = message-room k h m n refl (sym (ap length eh) ∙ i .2) (sym (ap length em) ∙ i .3) (i .0) (i .1) .1 in
         let a : first ≡ sizeOf k * (n - 1) = cc in
         let b : many ≡ sizeOf k = cc in
         rw (a, b) room
     go zero e false f = let z : _≡_ {A = ℕ} 0 1 = cc in absurd (omega arith)
-    go (suc q) e b {first} {many} f = let f : gives (first ∷ many ∷ []) ≡ refused (suc q) = rw (eqb·suc-zero q) at f in let z : _≡_ {A = ℕ} 0 1 = cc in absurd (omega arith)
+    go (suc q) e b {first} {many} f =
+        let f : gives (first ∷ many ∷ []) ≡ refused (suc q) = rw (eqb·suc-zero q) at f in let z : _≡_ {A = ℕ} 0 1 = cc in absurd (omega arith)
 
-view-inside : (c : CollectSubframe) (h m : List ℕ) (k : Message) (n : ℕ) (x : SubframeShown) → ViewSubframeShown c h m k n x → Inside x (length (bufferOf k h m))
+view-inside :
+    (c : CollectSubframe) (h m : List ℕ) (k : Message) (n : ℕ) (x : SubframeShown) → ViewSubframeShown c h m k n x
+    → Inside x (length (bufferOf k h m))
 view-inside c h m k n (Shown first many) e = view-lies h m (state c h m) k n refl refl e
 view-inside c h m k n NothingShown e = tt
 view-inside c h m k n (NotShown q) e = tt
@@ -404,7 +433,8 @@ module _ (c : CollectSubframe) (h m : List ℕ) (k : Message) (n : ℕ) (x : Sub
 
 -- an HKROOT message by value
 module _ (c : CollectSubframe) (h m : List ℕ) (n : ℕ) (x : SubframeShown) (e : ViewSubframeShown c h m Hkroot n x) where
-  pub message-refused : {q : ℕ} → x ≡ NotShown q → _≡_ {A = Copied} (record { answer = refused q; bytes = replicate 15 0 }) (copied 15 h (view (state c h m) 15 n))
+  pub message-refused :
+      {q : ℕ} → x ≡ NotShown q → _≡_ {A = Copied} (record { answer = refused q; bytes = replicate 15 0 }) (copied 15 h (view (state c h m) 15 n))
   message-refused g = copied-refused 15 h (rw g at e)
 
   pub message-nothing : x ≡ NothingShown → _≡_ {A = Copied} (record { answer = nothing; bytes = replicate 15 0 }) (copied 15 h (view (state c h m) 15 n))
@@ -415,7 +445,10 @@ module _ (c : CollectSubframe) (h m : List ℕ) (n : ℕ) (x : SubframeShown) (e
   unfolding view
   message-15 g = go (eqb (refusal (viewChecks (state c h m) n)) 0) (eqb (getD (c .counts) (n - 1) 0) 15) (rw g at e)
     where
-      go : (a b : Bool) {first many : ℕ} → gives (first ∷ many ∷ []) ≡ cond a (cond b (gives (15 * (n - 1) ∷ 15 ∷ [])) nothing) (refused (refusal (viewChecks (state c h m) n))) → many ≡ 15
+      go :
+          (a b : Bool) {first many : ℕ}
+          → gives (first ∷ many ∷ []) ≡ cond a (cond b (gives (15 * (n - 1) ∷ 15 ∷ [])) nothing) (refused (refusal (viewChecks (state c h m) n)))
+          → many ≡ 15
       go true true f = cc
       go true false f = let z : _≡_ {A = ℕ} 0 1 = cc in absurd (omega arith)
       go false b f = let z : _≡_ {A = ℕ} 0 1 = cc in absurd (omega arith)
@@ -423,5 +456,7 @@ module _ (c : CollectSubframe) (h m : List ℕ) (n : ℕ) (x : SubframeShown) (e
   pub message-room-15 : {first many : ℕ} → x ≡ Shown first many → first + 15 ≤ length h
   message-room-15 {first} g = rw (← message-15 g) (inside-shown g (hkroot-inside c h m Hkroot n x e refl))
 
-  pub message-bytes : {first many : ℕ} {l : List ℕ} → x ≡ Shown first many → l ≡ take 15 (drop first h) → _≡_ {A = Copied} (record { answer = gives (first ∷ many ∷ []); bytes = l }) (copied 15 h (view (state c h m) 15 n))
+  pub message-bytes :
+      {first many : ℕ} {l : List ℕ} → x ≡ Shown first many → l ≡ take 15 (drop first h)
+      → _≡_ {A = Copied} (record { answer = gives (first ∷ many ∷ []); bytes = l }) (copied 15 h (view (state c h m) 15 n))
   message-bytes {first} g p = copied-bytes 15 h (rw g at e) (p ∙ ap (λ (k : ℕ). take k (drop first h)) (sym (message-15 g)))

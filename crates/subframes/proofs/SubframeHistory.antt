@@ -16,7 +16,7 @@ use Rattle.subframes.specs.Subframe.{offered, feed, view}
 use Rattle.subframes.specs.Trace.{entries, FedMany, traceChecks, feedAll}
 use Rattle.subframes.specs.SubframePromises.{state, meaning-subframe, meaning-shown, outcome, sizeOf, bufferOf, FeedSubframe}
 use Rattle.subframes.specs.TracePromises.{outcome-all, FeedAll}
-use Rattle.subframes.specs.SubframeRecovery.{isAdmitted, before, run, after, noPage, hasWord, Words, Alike, Viewed, Recovers}
+use Rattle.subframes.specs.SubframeRecovery.{isAdmitted, before, run, after, noPage, hasWord, Words, ComesOut, Alike, Viewed, Recovers}
 use Rattle.subframes.specs.SubframeHistory.{Call, one, many, Misfit, History, begun, called, misfit, looked, ShowsPair, ShowsNone, FeedRecovers}
 use Rattle.subframes.specs.SubframeHistory.{FeedAllRecovers, MisfitRefused, CodeRecovers, AnyPages, wordPage, wordsFrom, WordsExample, SmallestCase}
 use Rattle.runs.proofs.Rising.{reaches}
@@ -61,7 +61,9 @@ misfit-all s w trace = all-refused s trace (number (ℕ-discrete (length trace %
 answer-back : (a b : SubframeAnswer) → meaning-subframe a ≡ meaning-subframe b → a ≡ b
 answer-back a b e = sym (undo-subframe a) ∙ ap back-subframe e ∙ undo-subframe b
 
-misfit-call : {c c′ : CollectSubframe} {x y x′ y′ : List ℕ} {qs : List Page} {a : SubframeAnswer} → Misfit x y → Call c x y qs a c′ x′ y′ → MisfitRefused c x y a c′ x′ y′
+misfit-call :
+    {c c′ : CollectSubframe} {x y x′ y′ : List ℕ} {qs : List Page} {a : SubframeAnswer} → Misfit x y → Call c x y qs a c′ x′ y′
+    → MisfitRefused c x y a c′ x′ y′
 misfit-call {c} {x = x} {y = y} w (one p r x′ y′ e) =
     let q : outcome r x′ y′ ≡ record { state = state c x y; answer = refused 1 } = e ∙ sym (misfit-feed (state c x y) w p) in
     record {
@@ -80,7 +82,9 @@ misfit-call {c} {x = x} {y = y} w (many trace r x′ y′ e) =
     }
 
 -- A call feeds its pages.
-pub call-feeds : {c c′ : CollectSubframe} {h m h′ m′ : List ℕ} {qs : List Page} {a : SubframeAnswer} → Call c h m qs a c′ h′ m′ → state c′ h′ m′ ≡ after (state c h m) qs
+pub call-feeds :
+    {c c′ : CollectSubframe} {h m h′ m′ : List ℕ} {qs : List Page} {a : SubframeAnswer} → Call c h m qs a c′ h′ m′
+    → state c′ h′ m′ ≡ after (state c h m) qs
 call-feeds (one p r h′ m′ e) = ap (λ (f : Fed). f .state) e
 call-feeds {c} {h = h} {m = m} (many trace r h′ m′ e) =
     let w = walked-all (state c h m) trace in
@@ -96,15 +100,29 @@ record Reached (s : State) (ps : List Page) : Type 0 where
   is : s ≡ after (new hkroot mack) ps
 
 reached : {c : CollectSubframe} {h m : List ℕ} {ps : List Page} → History c h m ps → Reached (state c h m) ps
-reached (begun c h m e lh lm) = record { hkroot = h; mack = m; h540 = lh; m2160 = lm; is = ap (λ (s : State). record { week = s .week; subframe = s .subframe; counts = s .counts; hkroot = h; mack = m }) e }
+reached (begun c h m e lh lm) =
+    record {
+      hkroot = h;
+      mack = m;
+      h540 = lh;
+      m2160 = lm;
+      is = ap (λ (s : State). record { week = s .week; subframe = s .subframe; counts = s .counts; hkroot = h; mack = m }) e;
+    }
 reached (called {ps = ps} {qs = qs} k call) =
     let w = reached k in
-    record { hkroot = w .hkroot; mack = w .mack; h540 = w .h540; m2160 = w .m2160; is = call-feeds call ∙ ap (λ (s : State). after s qs) (w .is) ∙ sym (after-more (new (w .hkroot) (w .mack)) ps qs) }
+    record {
+      hkroot = w .hkroot;
+      mack = w .mack;
+      h540 = w .h540;
+      m2160 = w .m2160;
+      is = call-feeds call ∙ ap (λ (s : State). after s qs) (w .is) ∙ sym (after-more (new (w .hkroot) (w .mack)) ps qs);
+    }
 reached (looked k l) = reached k
 reached (misfit {c = c} {x = x} {y = y} {x′ = x′} {y′ = y′} {ps = ps} hkroot mack k w call) =
     let q = misfit-call w call in
     subst⁻¹ (λ (d : CollectSubframe). Reached (state d (hkroot x′ y′) (mack x′ y′)) ps) (q .record-is)
-    (subst⁻¹ (λ (z : List ℕ). Reached (state c (hkroot z y′) (mack z y′)) ps) (q .hkroot-is) (subst⁻¹ (λ (z : List ℕ). Reached (state c (hkroot x z) (mack x z)) ps) (q .mack-is) (reached k)))
+    (subst⁻¹ (λ (z : List ℕ). Reached (state c (hkroot z y′) (mack z y′)) ps) (q .hkroot-is)
+    (subst⁻¹ (λ (z : List ℕ). Reached (state c (hkroot x z) (mack x z)) ps) (q .mack-is) (reached k)))
 
 -- Of the state that a history leaves only what is asked can be refused.
 sound-after : (s : State) (ps : List Page) → Sound s → Sound (after s ps)
@@ -120,7 +138,14 @@ module _ {s : State} {ps : List Page} (w : Reached s ps) where
   reached-sound = subst⁻¹ Sound (w .is) (sound-after (new (w .hkroot) (w .mack)) ps (sound-new (w .hkroot) (w .mack) (w .h540) (w .m2160)))
 
   reached-more : (qs : List Page) → Reached (after s qs) (ps ++ qs)
-  reached-more qs = record { hkroot = w .hkroot; mack = w .mack; h540 = w .h540; m2160 = w .m2160; is = ap (λ (t : State). after t qs) (w .is) ∙ sym (after-more (new (w .hkroot) (w .mack)) ps qs) }
+  reached-more qs =
+      record {
+        hkroot = w .hkroot;
+        mack = w .mack;
+        h540 = w .h540;
+        m2160 = w .m2160;
+        is = ap (λ (t : State). after t qs) (w .is) ∙ sym (after-more (new (w .hkroot) (w .mack)) ps qs);
+      }
 
   -- so that a call recovers, whatever gave what the definition gives
   reached-recovers : (p : Page) (f : Fed) → f ≡ feed s p → Recovers s (run ps) p f
@@ -206,7 +231,8 @@ feed-recovers {c} {h = h} {m = m} {ps = ps} k p r h′ m′ e =
       like-new = λ {d} {x} {y} j q x′ y′ f a.
           let o = reached j in
           let g : outcome q x′ y′ ≡ feed (after (new (o .hkroot) (o .mack)) (before (run ps) p)) p = f ∙ ap (λ (t : State). feed t p) (o .is) in
-          let z : Alike (outcome r h′ m′) (outcome q x′ y′) = subst⁻¹ (λ (i : Fed). Alike (outcome r h′ m′) i) g (w .like-new (o .hkroot) (o .mack) (o .h540) (o .m2160) a) in
+          let alike = w .like-new (o .hkroot) (o .mack) (o .h540) (o .m2160) a in
+          let z : Alike (outcome r h′ m′) (outcome q x′ y′) = subst⁻¹ (λ (i : Fed). Alike (outcome r h′ m′) i) g alike in
           (answer-back (r .answer) (q .answer) (z .answer), z);
     }
 
@@ -221,16 +247,26 @@ not-admitted s r p f w q e = go (isAdmitted p) refl
     go : (b : Bool) → isAdmitted p ≡ b → b ≡ false
     go false h = refl
     go true h =
-        let y : nothing ≡ refused q = sym (w .else-nothing h (λ o. let x : refused q ≡ gives (p .week ∷ 30 * subframeOf (p .time) ∷ []) = sym e ∙ o in let z : _≡_ {A = ℕ} 0 1 = cc in absurd (omega arith))) ∙ e in
-        let z : _≡_ {A = ℕ} 0 1 = cc in absurd (omega arith)
+        let y : nothing ≡ refused q = sym (w .else-nothing h not-out) ∙ e in
+        let z : _≡_ {A = ℕ} 0 1 = cc in
+        absurd (omega arith)
+      where
+        not-out : ComesOut (f .answer) p → ⊥
+        not-out o =
+            let x : refused q ≡ gives (p .week ∷ 30 * subframeOf (p .time) ∷ []) = sym e ∙ o in
+            let z : _≡_ {A = ℕ} 0 1 = cc in
+            absurd (omega arith)
 
 whole-passes : (s : State) (trace : List ℕ) → Sound s → length trace % 12 ≡ 0 → refusal (traceChecks s trace) ≡ 0
 whole-passes s trace d l = sym (whole s trace l (sound-admitted s d))
 
-pub whole-passed : {c : CollectSubframe} {h m : List ℕ} {ps : List Page} → History c h m ps → (trace : List ℕ) → length trace % 12 ≡ 0 → refusal (traceChecks (state c h m) trace) ≡ 0
+pub whole-passed :
+    {c : CollectSubframe} {h m : List ℕ} {ps : List Page} → History c h m ps → (trace : List ℕ) → length trace % 12 ≡ 0
+    → refusal (traceChecks (state c h m) trace) ≡ 0
 whole-passed {c} {h} {m} k trace l = whole-passes (state c h m) trace (reached-sound (reached k)) l
 
-module _ {c : CollectSubframe} {h m : List ℕ} {ps : List Page} (j : History c h m ps) (trace : List ℕ) (r : TraceFed) (h′ m′ : List ℕ) (e : FeedAll c h m trace r h′ m′) where
+module _ {c : CollectSubframe} {h m : List ℕ} {ps : List Page} (j : History c h m ps) (trace : List ℕ) (r : TraceFed) (h′ m′ : List ℕ)
+    (e : FeedAll c h m trace r h′ m′) where
   abbrev s : State
   s = state c h m
 
@@ -243,8 +279,15 @@ module _ {c : CollectSubframe} {h m : List ℕ} {ps : List Page} (j : History c 
   same : r .consumed ≡ w .more
   same = omega (arith, w .consumed-is, ap (λ (f : FedMany). f .consumed) e)
 
+  -- what entry k gives after those before it
+  abbrev given : ℕ → Fed
+  given k = feed (after s (take k es)) (getD es k noPage)
+
   at : (k : ℕ) → Reached (after s (take k es)) (ps ++ take k es)
   at k = reached-more (reached j) (take k es)
+
+  not-full : ((week time : ℕ) → r .answer ≡ Complete week time → ⊥) → (l : List ℕ) → feedAll s trace .answer ≡ gives l → ⊥
+  not-full ne l g = not-complete (r .answer) ne l (ap (λ (f : FedMany). f .answer) e ∙ g)
 
   pub feed-all-recovers : FeedAllRecovers c h m ps trace r h′ m′
   feed-all-recovers =
@@ -252,22 +295,25 @@ module _ {c : CollectSubframe} {h m : List ℕ} {ps : List Page} (j : History c 
         some = omega (arith, w .few, same);
         state-is = call-feeds (many trace r h′ m′ e);
         before-last = λ k l.
+            let next = after-next s es k (omega (arith, l, w .few, same)) in
+            let quiet = sym (w .quiet k (omega (arith, l, same))) in
             reached-recovers (at k) (getD es k noPage) (record { state = after s (take (suc k) es); answer = nothing })
-            (ap (λ (t : State). record { state = t; answer = nothing }) (after-next s es k (omega (arith, l, w .few, same)))
-            ∙ ap (λ (a : Answer). record { state = feed (after s (take k es)) (getD es k noPage) .state; answer = a }) (sym (w .quiet k (omega (arith, l, same)))));
+            (ap (λ (t : State). record { state = t; answer = nothing }) next ∙ ap (λ (a : Answer). record { state = given k .state; answer = a }) quiet);
         last = λ k l.
             reached-recovers (at k) (getD es k noPage) (record { state = state (r .collector) h′ m′; answer = meaning-subframe (r .answer) })
             (ap (λ (f : FedMany). record { state = f .state; answer = f .answer }) e ∙ sym (w .last k (l ∙ same)));
         none = λ z.
-            let q : state (r .collector) h′ m′ ≡ state c h m = ap (λ (f : FedMany). f .state) e ∙ w .state-is ∙ ap (λ (n : ℕ). after s (take n es)) (sym same ∙ z) in
+            let q : state (r .collector) h′ m′ ≡ state c h m = call-feeds (many trace r h′ m′ e) ∙ ap (λ (n : ℕ). after s (take n es)) z in
             (ap back-state q, ap (λ (t : State). t .hkroot) q, ap (λ (t : State). t .mack) q);
         stops = λ l few ne.
-            let x = w .stops (whole-passes s trace (reached-sound (reached j)) l) (omega (arith, few, same)) (λ l g. not-complete (r .answer) ne l (ap (λ (f : FedMany). f .answer) e ∙ g)) in
-            let y : isAdmitted (getD es (w .more) noPage) ≡ false = not-admitted (after s (take (w .more) es)) (run (ps ++ take (w .more) es)) (getD es (w .more) noPage) (feed (after s (take (w .more) es)) (getD es (w .more) noPage))
-            (reached-recovers (at (w .more)) (getD es (w .more) noPage) (feed (after s (take (w .more) es)) (getD es (w .more) noPage)) refl) (x .0) (x .1) in
-            ap (λ (n : ℕ). isAdmitted (getD es n noPage)) same ∙ y;
+            let n = w .more in
+            let p = getD es n noPage in
+            let x = w .stops (whole-passed j trace l) (omega (arith, few, same)) (not-full ne) in
+            let recovers = reached-recovers (at n) p (given n) refl in
+            ap (λ (n : ℕ). isAdmitted (getD es n noPage)) same ∙ not-admitted (after s (take n es)) (run (ps ++ take n es)) p (given n) recovers (x .0) (x .1);
         not-whole = λ l.
-            let q : outcome-all r h′ m′ ≡ record { state = s; answer = refused 1; consumed = 0 } = e ∙ sym (all-refused s trace (not-whole s trace l) (λ z. absurd (omega (arith, z)))) in
+            let no = all-refused s trace (not-whole s trace l) (λ z. absurd (omega (arith, z))) in
+            let q : outcome-all r h′ m′ ≡ record { state = s; answer = refused 1; consumed = 0 } = e ∙ sym no in
             (answer-back (r .answer) (Refused 1) (ap (λ (f : FedMany). f .answer) q), ap (λ (f : FedMany). f .consumed) q);
       }
 
@@ -293,7 +339,8 @@ either-coded false f g x y = y
 
 offered-coded : (t : State) (bytes : List ℕ) (i word : ℕ) → Coded (offered t bytes i word .answer)
 unfolding offered used answerAt
-offered-coded t bytes i word = either-coded (eqb word (getD (t .counts) i 0)) (used t bytes i word) (record { state = t; answer = nothing }) (go (eqb (word + 1) 15)) refl
+offered-coded t bytes i word =
+    either-coded (eqb word (getD (t .counts) i 0)) (used t bytes i word) (record { state = t; answer = nothing }) (go (eqb (word + 1) 15)) refl
   where
     go : (b : Bool) → Coded (cond b (gives (t .week ∷ 30 * t .subframe ∷ [])) nothing)
     go true = refl
@@ -303,14 +350,18 @@ fed-coded : (t : State) (p : Page) → Coded (feed t p .answer)
 unfolding feed
 fed-coded t p =
     let u = changed t (p .week) (subframeOf (p .time)) in
-    either-coded (eqb (refusal (feedChecks t p)) 0) (offered u (p .bytes) (p .satellite - 1) (wordOf (p .time))) (record { state = t; answer = refused (refusal (feedChecks t p)) }) (offered-coded u (p .bytes) (p .satellite - 1) (wordOf (p .time))) refl
+    either-coded (eqb (refusal (feedChecks t p)) 0) (offered u (p .bytes) (p .satellite - 1) (wordOf (p .time)))
+    (record { state = t; answer = refused (refusal (feedChecks t p)) }) (offered-coded u (p .bytes) (p .satellite - 1) (wordOf (p .time))) refl
 
-any-more : {c : CollectSubframe} {h m : List ℕ} {qs : List Page} → History c h m qs → (ps : List Page) → (d : CollectSubframe) × (x : List ℕ) × (y : List ℕ) × History d x y (qs ++ ps)
+any-more :
+    {c : CollectSubframe} {h m : List ℕ} {qs : List Page} → History c h m qs → (ps : List Page)
+    → (d : CollectSubframe) × (x : List ℕ) × (y : List ℕ) × History d x y (qs ++ ps)
 any-more {c} {h} {m} {qs} k [] = (c, h, m, subst⁻¹ (λ (l : List Page). History c h m l) (append-nil qs) k)
 any-more {c} {h} {m} {qs} k (p ∷ ps) =
     let f = feed (state c h m) p in
     let r : SubframeFed = record { collector = back-state (f .state); answer = back-subframe (f .answer) } in
-    let e : FeedSubframe c h m p r (f .state .hkroot) (f .state .mack) = ap (λ (a : Answer). record { state = f .state; answer = a }) (fed-coded (state c h m) p) in
+    let coded = fed-coded (state c h m) p in
+    let e : FeedSubframe c h m p r (f .state .hkroot) (f .state .mack) = ap (λ (a : Answer). record { state = f .state; answer = a }) coded in
     let w = any-more (called k (one p r (f .state .hkroot) (f .state .mack) e)) ps in
     (w .0, w .1, w .2, subst (λ (l : List Page). History (w .0) (w .1) (w .2) l) (append-assoc qs (p ∷ []) ps) (w .3))
 

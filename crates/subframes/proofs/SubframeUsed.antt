@@ -20,7 +20,9 @@ unfolding feed offered isUsed
 used-is-taken s p z = rw z
 
 -- the counts after a change do not depend on the lent bytes
-counts-alone : (c : CollectSubframe) (h m : List ℕ) (week subframe : ℕ) → changed (state c [] []) week subframe .counts ≡ changed (state c h m) week subframe .counts
+counts-alone :
+    (c : CollectSubframe) (h m : List ℕ) (week subframe : ℕ)
+    → changed (state c [] []) week subframe .counts ≡ changed (state c h m) week subframe .counts
 unfolding changed
 counts-alone c h m week subframe = go (eqb (c .week) week && eqb (c .subframe) subframe)
   where
@@ -31,7 +33,9 @@ counts-alone c h m week subframe = go (eqb (c .week) week && eqb (c .subframe) s
     go true = refl
     go false = refl
 
-pub used-alone : (c : CollectSubframe) (h m bytes : List ℕ) (satellite week time : ℕ) → isUsed (state c [] []) (call [] satellite week time) ≡ isUsed (state c h m) (call bytes satellite week time)
+pub used-alone :
+    (c : CollectSubframe) (h m bytes : List ℕ) (satellite week time : ℕ)
+    → isUsed (state c [] []) (call [] satellite week time) ≡ isUsed (state c h m) (call bytes satellite week time)
 unfolding isUsed
 used-alone c h m bytes satellite week time = ap (λ (l : List ℕ). eqb (wordOf time) (getD l (satellite - 1) 0)) (counts-alone c h m week (subframeOf time))
 
@@ -40,7 +44,15 @@ asked-too : (s : State) (p : Page) → refusal (feedChecks s p) ≡ 0 → refusa
 unfolding refusal
 asked-too s p z =
     let f = none-fails (feedChecks s p) tt z in
-    rw (f .1 .1 .1 .0, f .1 .1 .1 .1 .0, f .1 .1 .1 .1 .1 .0, f .1 .1 .1 .1 .1 .1 .0, f .1 .1 .1 .1 .1 .1 .1 .0, f .1 .1 .1 .1 .1 .1 .1 .1 .0, f .1 .1 .1 .1 .1 .1 .1 .1 .1 .0)
+    rw (
+      f .1 .1 .1 .0,
+      f .1 .1 .1 .1 .0,
+      f .1 .1 .1 .1 .1 .0,
+      f .1 .1 .1 .1 .1 .1 .0,
+      f .1 .1 .1 .1 .1 .1 .1 .0,
+      f .1 .1 .1 .1 .1 .1 .1 .1 .0,
+      f .1 .1 .1 .1 .1 .1 .1 .1 .1 .0,
+    )
 
 pub used-is-asked : UsedIsAsked
 unfolding usedAnswer

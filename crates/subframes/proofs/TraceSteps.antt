@@ -216,7 +216,9 @@ walked n s (p ∷ ps) = go (feed s p .answer) refl (walked (n + 1) (feed s p .st
     rest = feedEach (n + 1) (feed s p .state) ps
 
     by : Answer → FedMany
-    by a = byAnswer a (record { state = s; answer = cond (eqb n 0) a nothing; consumed = n }) rest (record { state = feed s p .state; answer = a; consumed = n + 1 })
+    by a =
+        byAnswer a (record { state = s; answer = cond (eqb n 0) a nothing; consumed = n }) rest
+        (record { state = feed s p .state; answer = a; consumed = n + 1 })
 
     go : (a : Answer) → feed s p .answer ≡ a → Walked (Unit {0}) (n + 1) (feed s p .state) ps rest → Walked (Unit {0}) n s (p ∷ ps) (by a)
     go (refused q) e w = walked-refused n s p ps q e

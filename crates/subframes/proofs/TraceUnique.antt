@@ -21,7 +21,9 @@ feed-all c h m trace r s x y x′ y′ p q =
     let e : outcome-all r x x′ ≡ outcome-all s y y′ = p ∙ sym q in
     (whole r ∙ ap back-all e ∙ sym (whole s), ap (λ (f : FedMany). f .state .hkroot) e, ap (λ (f : FedMany). f .state .mack) e)
   where
-    whole : (f : TraceFed) → _≡_ {A = TraceFed} f (record { collector = f .collector; answer = back-subframe (meaning-subframe (f .answer)); consumed = f .consumed })
+    whole :
+        (f : TraceFed)
+        → _≡_ {A = TraceFed} f (record { collector = f .collector; answer = back-subframe (meaning-subframe (f .answer)); consumed = f .consumed })
     whole f = rw (undo-subframe (f .answer))
 
 -- all public functions

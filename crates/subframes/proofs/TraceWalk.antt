@@ -64,7 +64,8 @@ rest-is trace k h =
     let few : k ≤ length trace / 12 = omega (arith, h, length-entries trace 0 (length trace / 12)) in
     let n : length (drop (12 * k) trace) / 12 ≡ length trace / 12 - k = rw (length-drop (12 * k) trace) (omega (arith, few)) in
     let z : k + 0 ≡ 0 + k = omega arith in
-    entries-later trace k 0 (length (drop (12 * k) trace) / 12) ∙ ap (λ (i : ℕ). entriesFrom trace (k + 0) i) n ∙ ap (λ (i : ℕ). entriesFrom trace i (length trace / 12 - k)) z
+    entries-later trace k 0 (length (drop (12 * k) trace) / 12) ∙ ap (λ (i : ℕ). entriesFrom trace (k + 0) i) n
+    ∙ ap (λ (i : ℕ). entriesFrom trace i (length trace / 12 - k)) z
     ∙ sym (drop-entries trace k 0 (length trace / 12) few)
 
 -- A page that is not admitted belongs to no run.

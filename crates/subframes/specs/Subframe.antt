@@ -75,10 +75,11 @@ takeWord count word =
     (cond (takes count word) (record { next = count + 1; answer = gives [] }) (record { next = count; answer = nothing })))
 
 -- "If its week or subframe differs from the record's, both are taken over and all 36 counts become 0, whether or not the page is then used."
+abbrev pub fresh : State → ℕ → ℕ → State
+fresh s week subframe = record { week = week; subframe = subframe; counts = replicate 36 0; hkroot = s .hkroot; mack = s .mack }
+
 unfoldable pub changed : State → ℕ → ℕ → State
-changed s week subframe =
-    cond (eqb (s .week) week && eqb (s .subframe) subframe) s
-    (record { week = week; subframe = subframe; counts = replicate 36 0; hkroot = s .hkroot; mack = s .mack })
+changed s week subframe = cond (eqb (s .week) week && eqb (s .subframe) subframe) s (fresh s week subframe)
 
 -- the state after a call, and the answer
 pub record Fed : Type 0 where

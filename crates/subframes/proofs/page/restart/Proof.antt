@@ -11,7 +11,8 @@ returns c = let a = c .before .before .args in λ h m.
 
 returns-2 : tie.Need-returns-2
 returns-2 c = let a = c .before .before .before .args in λ h m.
-    other-subframe-taken (stateOf (a .week) (a .subframe) (a .counts .now) h m) (a .to-week) (a .to-subframe) (c .before .before .if1 .left) (c .before .if2 .taken)
+    let s = stateOf (a .week) (a .subframe) (a .counts .now) h m in
+    other-subframe-taken s (a .to-week) (a .to-subframe) (c .before .before .if1 .left) (c .before .if2 .taken)
 
 returns-3 : tie.Need-returns-3
 returns-3 c = let a = c .before .before .args in λ h m. same-subframe (a .counts .now) h m (c .before .if1 .left) (c .if2 .left)

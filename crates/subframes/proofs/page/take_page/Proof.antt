@@ -9,7 +9,8 @@ use Rattle.subframes.proofs.page.take_page.Tie as tie
 
 -- what is known of the page
 admitted : (c : tie.Start)
-    → Fine (stateOf (c .args .week) (c .args .subframe) (c .args .counts .now) (c .args .hkroot .now) (c .args .mack .now)) (pageOf (c .args .entry) (c .args .page .now))
+    → Fine (stateOf (c .args .week) (c .args .subframe) (c .args .counts .now) (c .args .hkroot .now) (c .args .mack .now))
+    (pageOf (c .args .entry) (c .args .page .now))
 admitted c = admitted-entry _ _ _ _ _ (c .args .entry) (c .args .page .now) (c .pre)
 
 -- where the function began

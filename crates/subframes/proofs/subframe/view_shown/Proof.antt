@@ -15,7 +15,8 @@ abbrev start : tie.Else1 → tie.Start
 start c = c .before .before .before .before
 
 seen-here : (c : tie.Else1)
-    → (1 ≤ start c .args .satellite) × (start c .args .satellite ≤ 36) × (length (start c .args .hkroot .now) ≡ 540) × (length (start c .args .mack .now) ≡ 2160)
+    → (1 ≤ start c .args .satellite) × (start c .args .satellite ≤ 36)
+    × (length (start c .args .hkroot .now) ≡ 540) × (length (start c .args .mack .now) ≡ 2160)
 seen-here c =
     let a = start c .args in
     seen-satellite (state (a .t1) (a .hkroot .now) (a .mack .now)) (a .satellite) (c .before .view-refuses .ensures) (c .if1 .left)
