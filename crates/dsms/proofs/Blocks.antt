@@ -10,6 +10,7 @@ use native.Mathlib.Omega.{arith}
 use lib.Dec.{ltb, eqb}
 use lib.ListN.{length, getD, set, replicate, take}
 use borrow.Author.Tests.{eqb-true, eqb-false, lt-ltb, le-ltb, eq-eqb, ne-eqb, not-true, not-false}
+use Rattle.layouts.specs.Lists.{put, all}
 use Rattle.layouts.specs.Answer.{Answer, refused, nothing, gives, refusal, shown}
 use Rattle.layouts.specs.Bits.{Field, the, value}
 use Rattle.layouts.specs.Sizes.{size, krootBlocks, pkrBlocks, readSize}
@@ -32,7 +33,7 @@ use Rattle.dsms.specs.declared.dsm.DsmShown.{DsmShown}
 use Rattle.dsms.specs.declared.dsm.DsmShown.the-variants.{Shown, Nothing as NothingShown, Refused as NotShown}
 use Rattle.dsms.specs.DsmPromises.{state, meaning-dsm, meaning-shown}
 use Rattle.dsms.specs.declared.dsm.CollectDsm.{CollectDsm}
-use Rattle.dsms.specs.Dsm.{State, Fed, idOf, blockOf, feedChecks, fresh, begun, stored, put, krootCount, pkrCount, counted, count, allHeld}
+use Rattle.dsms.specs.Dsm.{State, Fed, idOf, blockOf, feedChecks, fresh, begun, stored, krootCount, pkrCount, counted, count, allHeld}
 use Rattle.dsms.specs.Dsm.{completed, finished, taken, feed, view}
 
 -- The refusals.
@@ -127,16 +128,16 @@ counted-few t m = go (eqb t 0)
 
 -- The blocks that are held.
 pub held-more : (held : List Bool) (i : ℕ) → allHeld held i ≡ true → not (getD held i false) ≡ false → allHeld held (i + 1) ≡ true
-unfolding allHeld
+unfolding all
 held-more held i e h = rw (add-one i, e, not-false (getD held i false) h)
 
 false-stays : (held : List Bool) (i k : ℕ) → allHeld held i ≡ false → allHeld held (k + i) ≡ false
-unfolding allHeld
+unfolding all
 false-stays held i zero e = rw (zero-add i) e
 false-stays held i (suc k) e = rw (suc-add k i, false-stays held i k e)
 
 pub not-held : (held : List Bool) (i n : ℕ) → i < n → allHeld held i ≡ true → not (getD held i false) ≡ true → false ≡ allHeld held n
-unfolding allHeld
+unfolding all
 not-held held i n h e g =
     let here : allHeld held (suc i) ≡ false = rw (e, not-true (getD held i false) g) in
     let far : (n - suc i) + suc i ≡ n = omega arith in
@@ -170,7 +171,7 @@ pub stored-held : (s : State) (n : ℕ) (b : List ℕ) → getD (s .held) n fals
 unfolding stored
 stored-held s n b h = rw h
 
-pub stored-new : (s : State) (n : ℕ) (b : List ℕ) {m : List ℕ} → getD (s .held) n false ≡ false → m ≡ put (s .memory) n b
+pub stored-new : (s : State) (n : ℕ) (b : List ℕ) {m : List ℕ} → getD (s .held) n false ≡ false → m ≡ put (s .memory) (13 * n) 13 b
     → _≡_ {A = State} (record { id = s .id; came = s .came; held = set (s .held) n true; done = s .done; memory = m }) (stored s n b)
 unfolding stored
 stored-new s n b h e = rw (h, e)

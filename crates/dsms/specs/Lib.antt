@@ -1,3 +1,4 @@
+pub mod Agreed
 pub mod Dsm
 pub mod DsmPromises
 pub mod DsmRecovery
