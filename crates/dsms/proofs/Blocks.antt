@@ -281,7 +281,7 @@ shown-from-0 : (m : List ℕ) {a : Answer} {n : ℕ} → gives (0 ∷ n ∷ []) 
 unfolding shown
 shown-from-0 m e = rw (← e)
 
-not-shown : (m : List ℕ) {a : Answer} {n : ℕ} → refused n ≡ a → [] ≡ shown m a
+pub not-shown : (m : List ℕ) {a : Answer} {n : ℕ} → refused n ≡ a → [] ≡ shown m a
 unfolding shown
 not-shown m e = rw (← e)
 

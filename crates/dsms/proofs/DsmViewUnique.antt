@@ -16,7 +16,7 @@ use Rattle.dsms.specs.declared.dsm.DsmFed.{DsmFed}
 use Rattle.dsms.specs.declared.dsm_view.Dsm.{Dsm}
 use Rattle.dsms.proofs.DsmUnique.{type-back, back-dsm, undo-dsm, new-dsm, feed-dsm, view-dsm-shown, view-dsm}
 
-abbrev back-kind : Answer → DsmType
+abbrev pub back-kind : Answer → DsmType
 back-kind (refused n) = Kroot
 back-kind nothing = Kroot
 back-kind (gives []) = Kroot
