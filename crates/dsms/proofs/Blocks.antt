@@ -58,17 +58,17 @@ module _ (id : ℕ) (m b : List ℕ) where
 
 -- A change of ID.
 module _ (s : State) (i : ℕ) where
-  pub begun-first : not (s .came) ≡ true → fresh s i ≡ begun s i
+  pub begun-first : s .came ≡ false → fresh s i ≡ begun s i
   unfolding begun
-  begun-first h = rw (not-true (s .came) h)
+  begun-first h = rw h
 
-  pub begun-other : not (s .came) ≡ false → (s .id ≡ i → ⊥) → fresh s i ≡ begun s i
+  pub begun-other : s .came ≡ true → eqb (s .id) i ≡ false → fresh s i ≡ begun s i
   unfolding begun
-  begun-other h ne = rw (not-false (s .came) h, ne-eqb (s .id) i ne)
+  begun-other h ne = rw (h, ne)
 
-  pub begun-same : not (s .came) ≡ false → s .id ≡ i → s ≡ begun s i
+  pub begun-same : s .came ≡ true → eqb (s .id) i ≡ true → s ≡ begun s i
   unfolding begun
-  begun-same h e = rw (not-false (s .came) h, eq-eqb (s .id) i e)
+  begun-same h e = let q : (s .came && eqb (s .id) i) ≡ true = rw (h, e) in sym (ap (λ (b : Bool). cond b s (fresh s i)) q)
 
 -- A count, by the reader of `layouts`.
 size-given : (f : Field) (g : ℕ → ℕ) (m : List ℕ) {x : Number} {n : ℕ} → meaning-number x ≡ readSize f g m → x ≡ Value n → n ≡ g (value f m)

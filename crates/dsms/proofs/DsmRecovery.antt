@@ -265,15 +265,15 @@ next-run i s r came k d e = go (eqb i (idIn d)) refl
   where
     go : (b : Bool) → eqb i (idIn d) ≡ b → Core (idIn d) (begun s (idIn d)) (before r d)
     go true h =
-        let same : i ≡ idIn d = eqb-true i (idIn d) h in
+        let same : eqb (s .id) (idIn d) ≡ true = rw (k .id-is) h in
         let here : before r d ≡ r = rw (e, h) in
         subst⁻¹ (λ (l : List Call). Core (idIn d) (begun s (idIn d)) l) here
-        (subst (λ (t : State). Core (idIn d) t r) (begun-same s (idIn d) (rw came) (k .id-is ∙ same)) (subst (λ (j : ℕ). Core j s r) same k))
+        (subst (λ (t : State). Core (idIn d) t r) (begun-same s (idIn d) came same) (subst (λ (j : ℕ). Core j s r) (eqb-true i (idIn d) h) k))
     go false h =
+        let other : eqb (s .id) (idIn d) ≡ false = rw (k .id-is) h in
         let none : before r d ≡ [] = rw (e, h) in
         subst⁻¹ (λ (l : List Call). Core (idIn d) (begun s (idIn d)) l) none
-        (subst (λ (t : State). Core (idIn d) t []) (begun-other s (idIn d) (rw came) (λ z. eqb-false i (idIn d) h (sym (k .id-is) ∙ z)))
-        (fresh-core (idIn d) s (k .long)))
+        (subst (λ (t : State). Core (idIn d) t []) (begun-other s (idIn d) came other) (fresh-core (idIn d) s (k .long)))
 
 begun-came : (s : State) (i : ℕ) → begun s i .came ≡ true
 unfolding begun

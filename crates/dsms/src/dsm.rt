@@ -76,23 +76,15 @@ fn refuses(collector: CollectDsm, dsm: &[u8], block: &[u8]) -> u8
 fn begin(collector: CollectDsm, id: u8) -> CollectDsm
     ensures { λ r. ⌜ ((m : List ℕ) → state r m ≡ begun (state collector m) id) ⌝ }
 {
-    if !collector.came {
-        return CollectDsm {
-            id,
-            came: true,
-            held: [false; 16],
-            done: false,
-        };
+    if collector.came && collector.id == id {
+        return collector;
     }
-    if collector.id != id {
-        return CollectDsm {
-            id,
-            came: true,
-            held: [false; 16],
-            done: false,
-        };
+    CollectDsm {
+        id,
+        came: true,
+        held: [false; 16],
+        done: false,
     }
-    collector
 }
 
 // Block `n` goes to its place.
