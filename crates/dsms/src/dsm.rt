@@ -79,12 +79,10 @@ fn begin(collector: CollectDsm, id: u8) -> CollectDsm
     if collector.came && collector.id == id {
         return collector;
     }
-    CollectDsm {
-        id,
-        came: true,
-        held: [false; 16],
-        done: false,
-    }
+    let mut next = new();
+    next.id = id;
+    next.came = true;
+    next
 }
 
 // Block `n` goes to its place.
