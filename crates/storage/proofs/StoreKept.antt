@@ -10,54 +10,55 @@ use lib.Dec.{ltb, eqb}
 use borrow.Author.Tests.{eq-eqb, eqb-true, eqb-false, ltb-true, ltb-false, not-true, not-false}
 use Rattle.layouts.specs.Answer.{gives, refusal}
 use Rattle.storage.specs.Store.{Storage, State, Call, first, entry, isTime, hasTime, askChecks, nextPlace, moves, placeFor, numberFor, placeOf, numberOf, put, stored, store, reached, firstOf, found, get}
-use Rattle.storage.specs.StoreKeeps.{newStore, after, bytesAt, isStored, empties, lasts, Keeps, StoreKeeps, StoreFinds}
+use Rattle.storage.specs.StoreKeeps.{newStore, next, after, entryOf, firstByte, bytesAt, isStored, empties, lasts, Keeps, StoreKeeps, StoreFinds}
 use Rattle.storage.proofs.Bytes.{put-long, put-before, put-behind, part-put, part-before, part-behind}
 use Rattle.storage.proofs.Searches.{and-left, and-right, and-both, first-is, first-before}
-use Rattle.storage.proofs.StoreRecord.{room, sentBy, legal-at, place-few}
+use Rattle.storage.proofs.StoreRecord.{room, legal-at, place-few}
+use Rattle.storage.specs.StoreInner.{sentBy}
 use Rattle.storage.proofs.Stored.{ask-fine, record-on, Fine, find-at, get-there}
 use Rattle.storage.proofs.StoreSound.{apart, Sound, new-sound, other-count, other-satellite, other-status, other-time, own-time, own-count, own-satellite, own-status, state-stored, state-refused, fine-of, fits, store-sound, after-sound}
 
 -- The lent bytes.
 module _ (messages times : ℕ) (s : State) (c : Call) (pos : 0 < messages) where
-  at-state : (P : State → Type 0) → (isStored messages times s c ≡ true → Fine messages times s c → P (stored messages times s c)) → P s → P (store messages times s c .state)
+  at-state : (P : State → Type 0) → (isStored messages times s c ≡ true → Fine messages times s c → P (stored messages times s c)) → P s → P (next messages times s c)
   at-state P f g = go (isStored messages times s c) refl
     where
-      go : (b : Bool) → isStored messages times s c ≡ b → P (store messages times s c .state)
+      go : (b : Bool) → isStored messages times s c ≡ b → P (next messages times s c)
       go true e = subst⁻¹ P (state-stored messages times s c e) (f e (fine-of messages times s c pos e))
       go false e = subst⁻¹ P (state-refused messages times s c e) g
 
   module _ (f : Fine messages times s c) where
-    before : (k : ℕ) → k < 60 * entry messages (placeOf times s c) (numberOf s c) → getD (stored messages times s c .memory) k 0 ≡ getD (s .memory) k 0
+    before : (k : ℕ) → k < firstByte messages times s c → getD (stored messages times s c .memory) k 0 ≡ getD (s .memory) k 0
     unfolding stored
-    before k h = put-before (s .memory) (c .message) (60 * entry messages (placeOf times s c) (numberOf s c)) 60 (f .message-long) (fits messages times s c pos f) k h
+    before k h = put-before (s .memory) (c .message) (firstByte messages times s c) 60 (f .message-long) (fits messages times s c pos f) k h
 
-    behind : (k : ℕ) → 60 * entry messages (placeOf times s c) (numberOf s c) + 60 ≤ k → getD (stored messages times s c .memory) k 0 ≡ getD (s .memory) k 0
+    behind : (k : ℕ) → firstByte messages times s c + 60 ≤ k → getD (stored messages times s c .memory) k 0 ≡ getD (s .memory) k 0
     unfolding stored
-    behind k h = put-behind (s .memory) (c .message) (60 * entry messages (placeOf times s c) (numberOf s c)) 60 (f .message-long) (fits messages times s c pos f) k h
+    behind k h = put-behind (s .memory) (c .message) (firstByte messages times s c) 60 (f .message-long) (fits messages times s c pos f) k h
 
     as-long : length (stored messages times s c .memory) ≡ length (s .memory)
     unfolding stored
-    as-long = put-long (s .memory) (c .message) (60 * entry messages (placeOf times s c) (numberOf s c)) 60 (f .message-long) (fits messages times s c pos f)
+    as-long = put-long (s .memory) (c .message) (firstByte messages times s c) 60 (f .message-long) (fits messages times s c pos f)
 
     own : bytesAt messages (stored messages times s c) (placeOf times s c) (numberOf s c) ≡ c .message
     unfolding stored
-    own = part-put (s .memory) (c .message) (60 * entry messages (placeOf times s c) (numberOf s c)) 60 (f .message-long) (fits messages times s c pos f)
+    own = part-put (s .memory) (c .message) (firstByte messages times s c) 60 (f .message-long) (fits messages times s c pos f)
 
   kept-bytes : (q j : ℕ) → q < times → j < messages → (q ≡ placeOf times s c → j ≡ numberOf s c → ⊥) → Fine messages times s c → bytesAt messages (stored messages times s c) q j ≡ bytesAt messages s q j
   unfolding stored
-  kept-bytes q j hq hj ne f = go (ltb (entry messages q j) (entry messages (placeOf times s c) (numberOf s c))) refl
+  kept-bytes q j hq hj ne f = go (ltb (entry messages q j) (entryOf messages times s c)) refl
     where
       inside : 60 * entry messages q j + 60 ≤ length (s .memory)
       inside = omega (arith, f .memory-long, room messages times q (suc j) hq hj)
 
-      go : (b : Bool) → ltb (entry messages q j) (entry messages (placeOf times s c) (numberOf s c)) ≡ b
-          → take 60 (drop (60 * entry messages q j) (put (s .memory) (entry messages (placeOf times s c) (numberOf s c)) (c .message))) ≡ take 60 (drop (60 * entry messages q j) (s .memory))
+      go : (b : Bool) → ltb (entry messages q j) (entryOf messages times s c) ≡ b
+          → take 60 (drop (60 * entry messages q j) (put (s .memory) (entryOf messages times s c) (c .message))) ≡ take 60 (drop (60 * entry messages q j) (s .memory))
       go true e =
-          part-before (s .memory) (c .message) (60 * entry messages (placeOf times s c) (numberOf s c)) 60 (f .message-long) (fits messages times s c pos f) (60 * entry messages q j) 60 inside
-          (omega (arith, ltb-true (entry messages q j) (entry messages (placeOf times s c) (numberOf s c)) e))
+          part-before (s .memory) (c .message) (firstByte messages times s c) 60 (f .message-long) (fits messages times s c pos f) (60 * entry messages q j) 60 inside
+          (omega (arith, ltb-true (entry messages q j) (entryOf messages times s c) e))
       go false e =
-          part-behind (s .memory) (c .message) (60 * entry messages (placeOf times s c) (numberOf s c)) 60 (f .message-long) (fits messages times s c pos f) (60 * entry messages q j) 60 inside
-          (omega (arith, ltb-false (entry messages q j) (entry messages (placeOf times s c) (numberOf s c)) e, apart messages q j (placeOf times s c) (numberOf s c) hj (f .number-in) ne))
+          part-behind (s .memory) (c .message) (firstByte messages times s c) 60 (f .message-long) (fits messages times s c pos f) (60 * entry messages q j) 60 inside
+          (omega (arith, ltb-false (entry messages q j) (entryOf messages times s c) e, apart messages q j (placeOf times s c) (numberOf s c) hj (f .number-in) ne))
 
   pub keeps : Sound messages times s → Keeps messages times s c
   keeps z =
@@ -216,7 +217,7 @@ module _ (messages times : ℕ) (s : State) (d : Call) (pos : 0 < messages) (z :
             let yes : empties messages times s d p ≡ true = and-both (and-both e m) (eq-eqb (nextPlace times (s .storage .current)) p to) in
             sym yes ∙ g
 
-  pub holds-step : empties messages times s d p ≡ false → Holds messages (store messages times s d .state) p j c
+  pub holds-step : empties messages times s d p ≡ false → Holds messages (next messages times s d) p j c
   holds-step g = at-state messages times s d pos (λ (t : State). Holds messages t p j c) (λ e f. go e f (eqb p (placeOf times s d)) refl) h
     where
       go : isStored messages times s d ≡ true → Fine messages times s d → (b : Bool) → eqb p (placeOf times s d) ≡ b → Holds messages (stored messages times s d) p j c
@@ -227,7 +228,7 @@ pub holds-after : (messages times : ℕ) (s : State) (cs : List Call) (p j : ℕ
     → Holds messages (after messages times s cs) p j c
 holds-after messages times s [] p j c pos hp z l h = h
 holds-after messages times s (d ∷ cs) p j c pos hp z l h =
-    holds-after messages times (store messages times s d .state) cs p j c pos hp (store-sound messages times s d pos z) (and-right (not (empties messages times s d p)) _ l)
+    holds-after messages times (next messages times s d) cs p j c pos hp (store-sound messages times s d pos z) (and-right (not (empties messages times s d p)) _ l)
     (holds-step messages times s d pos z p j c hp h (not-true (empties messages times s d p) (and-left (not (empties messages times s d p)) _ l)))
 
 -- Asking for it.
@@ -254,12 +255,12 @@ store-finds messages times pos some memory l before c cs s p j es ep ej e g k =
     let hp : p < times = omega (arith, f .place-in) in
     let first-one : firstOf (s .storage .satellites) (messages * placeOf times s c) (numberOf s c) (c .asked .satellite) ≡ numberOf s c = rw (ep, ej) at g in
     let now : Holds messages (stored messages times s c) p j c = rw (ep, ej) (holds-first messages times s c pos z f first-one) in
-    let held : Holds messages (store messages times s c .state) p j c = subst⁻¹ (λ (t : State). Holds messages t p j c) (state-stored messages times s c e) now in
-    let sound : Sound messages times (store messages times s c .state) = store-sound messages times s c pos z in
-    let later : Holds messages (after messages times (store messages times s c .state) cs) p j c = holds-after messages times (store messages times s c .state) cs p j c pos hp sound k held in
-    let ok : Sound messages times (after messages times (store messages times s c .state) cs) = after-sound messages times (store messages times s c .state) cs pos sound in
+    let held : Holds messages (next messages times s c) p j c = subst⁻¹ (λ (t : State). Holds messages t p j c) (state-stored messages times s c e) now in
+    let sound : Sound messages times (next messages times s c) = store-sound messages times s c pos z in
+    let later : Holds messages (after messages times (next messages times s c) cs) p j c = holds-after messages times (next messages times s c) cs p j c pos hp sound k held in
+    let ok : Sound messages times (after messages times (next messages times s c) cs) = after-sound messages times (next messages times s c) cs pos sound in
     record {
-      lowest = held-lowest messages times (after messages times (store messages times s c .state) cs) p j c hp ok later;
-      found = held-found messages times (after messages times (store messages times s c .state) cs) p j c hp ok later (f .some) (f .few) (f .week-in) (f .time-in);
+      lowest = held-lowest messages times (after messages times (next messages times s c) cs) p j c hp ok later;
+      found = held-found messages times (after messages times (next messages times s c) cs) p j c hp ok later (f .some) (f .few) (f .week-in) (f .time-in);
       bytes = later .bytes;
     }

@@ -12,7 +12,7 @@ use borrow.Author.Tests.{le-leb, lt-ltb, eq-eqb, eqb-true, eqb-false, ltb-true, 
 use Rattle.layouts.specs.Answer.{refusal}
 use Rattle.storage.specs.Store.{Storage, State, Asked, Call, Outcome, entry, legalEntry, legalTime, legalEntries, legalPlace, legal, isTime, hasTime, storeChecks, nextPlace, moves, placeFor, numberFor, placeOf, numberOf, entered, stored, store, newStorage}
 use lib.Seq.{getD-set-same, getD-set-other}
-use Rattle.storage.specs.StoreKeeps.{newStore, after, isStored}
+use Rattle.storage.specs.StoreKeeps.{newStore, next, after, firstByte, isStored}
 use Rattle.storage.proofs.Bytes.{put-long}
 use Rattle.storage.proofs.Searches.{and-left, and-right, all-at, and-both, all-intro}
 use Rattle.storage.proofs.StoreRecord.{legalAt, room, timeAt, entriesAt, legal-current, legal-at, place-few}
@@ -222,10 +222,10 @@ number-legal messages times o week time ok i h = go (moves o week time) h
 
 -- A call: the state that it leaves.
 module _ (messages times : ℕ) (s : State) (c : Call) where
-  pub state-stored : isStored messages times s c ≡ true → store messages times s c .state ≡ stored messages times s c
+  pub state-stored : isStored messages times s c ≡ true → next messages times s c ≡ stored messages times s c
   state-stored e = sym (ap (λ (x : Outcome). x .state) (store-stored messages times s c refl (eqb-true (refusal (storeChecks messages times s c)) 0 e)))
 
-  pub state-refused : isStored messages times s c ≡ false → store messages times s c .state ≡ s
+  pub state-refused : isStored messages times s c ≡ false → next messages times s c ≡ s
   state-refused e = sym (ap (λ (x : Outcome). x .state) (store-refused messages times s c refl (eqb-false (refusal (storeChecks messages times s c)) 0 e)))
 
   module _ (pos : 0 < messages) where
@@ -233,7 +233,7 @@ module _ (messages times : ℕ) (s : State) (c : Call) where
     fine-of e = fine messages times s c pos refl (eqb-true (refusal (storeChecks messages times s c)) 0 e)
 
     -- the bytes of the new message lie in the memory
-    pub fits : Fine messages times s c → 60 * entry messages (placeOf times s c) (numberOf s c) + 60 ≤ length (s .memory)
+    pub fits : Fine messages times s c → firstByte messages times s c + 60 ≤ length (s .memory)
     fits f = omega (arith, f .memory-long, room messages times (placeOf times s c) (suc (numberOf s c)) (f .place-in) (f .number-in))
 
     stored-sound : Sound messages times s → Fine messages times s c → Sound messages times (stored messages times s c)
@@ -241,19 +241,19 @@ module _ (messages times : ℕ) (s : State) (c : Call) where
     stored-sound z f =
         record {
           long = entered-long messages times (s .storage) (placeOf times s c) (numberOf s c) (c .asked) (c .status) (z .long) (f .place-in) (f .number-in);
-          memory-long = put-long (s .memory) (c .message) (60 * entry messages (placeOf times s c) (numberOf s c)) 60 (f .message-long) (fits f) ∙ z .memory-long;
+          memory-long = put-long (s .memory) (c .message) (firstByte messages times s c) 60 (f .message-long) (fits f) ∙ z .memory-long;
           is-legal =
               entered-legal messages times (s .storage) (placeOf times s c) (numberOf s c) (c .asked) (c .status) (z .long) (f .place-in) (f .number-in) (z .is-legal) (f .some) (f .few) (f .week-in) (f .time-in) (f .status-in)
               (number-legal messages times (s .storage) (c .asked .week) (c .asked .time) (z .is-legal));
         }
 
-    pub store-sound : Sound messages times s → Sound messages times (store messages times s c .state)
+    pub store-sound : Sound messages times s → Sound messages times (next messages times s c)
     store-sound z = go (isStored messages times s c) refl
       where
-        go : (b : Bool) → isStored messages times s c ≡ b → Sound messages times (store messages times s c .state)
+        go : (b : Bool) → isStored messages times s c ≡ b → Sound messages times (next messages times s c)
         go true e = subst⁻¹ (Sound messages times) (state-stored e) (stored-sound z (fine-of e))
         go false e = subst⁻¹ (Sound messages times) (state-refused e) z
 
 pub after-sound : (messages times : ℕ) (s : State) (cs : List Call) → 0 < messages → Sound messages times s → Sound messages times (after messages times s cs)
 after-sound messages times s [] pos z = z
-after-sound messages times s (c ∷ cs) pos z = after-sound messages times (store messages times s c .state) cs pos (store-sound messages times s c pos z)
+after-sound messages times s (c ∷ cs) pos z = after-sound messages times (next messages times s c) cs pos (store-sound messages times s c pos z)

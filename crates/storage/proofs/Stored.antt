@@ -11,11 +11,11 @@ use borrow.Author.Tests.{le-ltb, lt-ltb, eq-eqb, ne-eqb, eqb-true, eqb-false, lt
 use Rattle.layouts.specs.Answer.{Answer, refused, nothing, gives, refusal}
 use Rattle.storage.specs.declared.places.Admitted.{Admitted}
 use Rattle.storage.specs.declared.places.Admitted.the-variants.{Refused as NotAdmitted, At}
-use Rattle.storage.specs.StoreInner.{Admits, AdmitsAt, fullAt, movesAt}
+use Rattle.storage.specs.StoreInner.{Admits, AdmitsAt, fullAt, movesAt, sentBy}
 use Rattle.layouts.proofs.Answers.{none-fails, stopped, went-on, refused-with, given-with}
 use Rattle.storage.specs.Store.{Storage, State, Asked, Call, Outcome, first, entry, legalPlace, legal, isTime, hasTime, timeChecks, askChecks, full, statusChecks, entryChecks, storeChecks, nextPlace, moves, placeFor, numberFor, placeOf, numberOf, entered, put, stored, store, reached, firstOf, foundAmong, found, get}
 use Rattle.storage.proofs.Searches.{and-both, and-first, and-last}
-use Rattle.storage.proofs.StoreRecord.{next-below, sentBy, legal-current, legal-at, place-few, place-untimed}
+use Rattle.storage.proofs.StoreRecord.{next-below, legal-current, legal-at, place-few, place-untimed}
 
 -- The refusals of what is asked.
 module _ (a : Asked) where
