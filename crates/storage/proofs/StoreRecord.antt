@@ -147,18 +147,23 @@ module _ (satellites : List ℕ) (at satellite j n : ℕ) (e : first (sentBy sat
   pub sent-here : j < n → getD satellites (at + j) 0 ≡ satellite → j ≡ first (sentBy satellites at satellite) n 0
   sent-here h g = first-here (sentBy satellites at satellite) j n h e (eq-eqb _ satellite g)
 
-  pub sent-later : j < n → (getD satellites (at + j) 0 ≡ satellite → ⊥) → first (sentBy satellites at satellite) (n - (j + 1)) (j + 1) ≡ first (sentBy satellites at satellite) n 0
+  pub sent-later :
+      j < n → (getD satellites (at + j) 0 ≡ satellite → ⊥)
+      → first (sentBy satellites at satellite) (n - (j + 1)) (j + 1) ≡ first (sentBy satellites at satellite) n 0
   sent-later h g = first-later (sentBy satellites at satellite) j n h e (ne-eqb _ satellite g)
 
   pub sent-none : n ≤ j → j ≤ n → j ≡ first (sentBy satellites at satellite) n 0
   sent-none h g = first-none (sentBy satellites at satellite) j n h g e
 
 -- The lowest place with a time, likewise.
-module _ (timed : List Bool) (weeks tows : List ℕ) (week time p n : ℕ) (e : first (timeIs timed weeks tows week time) (n - p) p ≡ first (timeIs timed weeks tows week time) n 0) where
+module _ (timed : List Bool) (weeks tows : List ℕ) (week time p n : ℕ)
+    (e : first (timeIs timed weeks tows week time) (n - p) p ≡ first (timeIs timed weeks tows week time) n 0) where
   pub time-here : p < n → {b : Bool} → b ≡ timeIs timed weeks tows week time p → b ≡ true → p ≡ first (timeIs timed weeks tows week time) n 0
   time-here h q g = first-here (timeIs timed weeks tows week time) p n h e (sym q ∙ g)
 
-  pub time-later : p < n → {b : Bool} → b ≡ timeIs timed weeks tows week time p → b ≡ false → first (timeIs timed weeks tows week time) (n - (p + 1)) (p + 1) ≡ first (timeIs timed weeks tows week time) n 0
+  pub time-later :
+      p < n → {b : Bool} → b ≡ timeIs timed weeks tows week time p → b ≡ false
+      → first (timeIs timed weeks tows week time) (n - (p + 1)) (p + 1) ≡ first (timeIs timed weeks tows week time) n 0
   time-later h q g = first-later (timeIs timed weeks tows week time) p n h e (sym q ∙ g)
 
   pub time-nowhere : n ≤ p → p ≤ n → p ≡ first (timeIs timed weeks tows week time) n 0

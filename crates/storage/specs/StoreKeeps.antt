@@ -29,6 +29,16 @@ entryOf messages times s c = entry messages (placeOf times s c) (numberOf s c)
 abbrev pub firstByte : ℕ → ℕ → State → Call → ℕ
 firstByte messages times s c = 60 * entryOf messages times s c
 
+-- whether a place has the call's time, which place asking it reaches, and whether storing at it moves on
+abbrev pub atTime : State → Call → ℕ → Bool
+atTime s c p = hasTime (s .storage) (c .asked .week) (c .asked .time) p
+
+abbrev pub reachedBy : ℕ → State → Call → ℕ
+reachedBy times s c = reached times (s .storage) (c .asked .week) (c .asked .time)
+
+abbrev pub movesOn : State → Call → Bool
+movesOn s c = moves (s .storage) (c .asked .week) (c .asked .time)
+
 -- the 60 bytes of message j of place p
 abbrev pub bytesAt : ℕ → State → ℕ → ℕ → List ℕ
 bytesAt messages s p j = take 60 (drop (60 * entry messages p j) (s .memory))
@@ -39,8 +49,7 @@ isStored messages times s c = eqb (refusal (storeChecks messages times s c)) 0
 
 -- "moves to the next place and empties it": the call empties place p
 abbrev pub empties : ℕ → ℕ → State → Call → ℕ → Bool
-empties messages times s c p =
-    isStored messages times s c && moves (s .storage) (c .asked .week) (c .asked .time) && eqb (nextPlace times (s .storage .current)) p
+empties messages times s c p = isStored messages times s c && movesOn s c && eqb (nextPlace times (s .storage .current)) p
 
 -- none of the calls empties it
 abbrev pub lasts : ℕ → ℕ → State → List Call → ℕ → Bool
@@ -74,11 +83,9 @@ StoreKeeps =
 -- Message j of place p of the state s came by the call c.
 pub record Finds (messages times : ℕ) (s : State) (c : Call) (p j : ℕ) : Type 0 where
   -- where no lower-numbered place holds the same time, asking that time reaches the message's place
-  pub lowest : ((q : ℕ) → q < p → hasTime (s .storage) (c .asked .week) (c .asked .time) q ≡ false)
-      → reached times (s .storage) (c .asked .week) (c .asked .time) ≡ p
+  pub lowest : ((q : ℕ) → q < p → atTime s c q ≡ false) → reachedBy times s c ≡ p
   -- where asking its time reaches its place, the message is found, with its status
-  pub found : reached times (s .storage) (c .asked .week) (c .asked .time) ≡ p
-      → get messages times (s .storage) (c .asked) ≡ gives (60 * entry messages p j ∷ c .status ∷ [])
+  pub found : reachedBy times s c ≡ p → get messages times (s .storage) (c .asked) ≡ gives (60 * entry messages p j ∷ c .status ∷ [])
   -- and its bytes are there
   pub bytes : bytesAt messages s p j ≡ c .message
 

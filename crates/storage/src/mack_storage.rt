@@ -177,10 +177,23 @@ pub fn get(storage: MackStorage, satellite: u8, week: u16, time: u32) -> MackFou
     if refused != 0 {
         return MackFound::Refused(refused);
     }
-    let place = places::lowest(&storage.timed, &storage.weeks, &storage.tows, 12, week, time);
+    let place = places::lowest(
+        &storage.timed,
+        &storage.weeks,
+        &storage.tows,
+        12,
+        week,
+        time,
+    );
     if 12 <= place {
         return MackFound::Nothing;
     }
     let many = storage.counts[place] as usize;
-    places::find(&storage.satellites, &storage.statuses, 36 * place, many, satellite)
+    places::find(
+        &storage.satellites,
+        &storage.statuses,
+        36 * place,
+        many,
+        satellite,
+    )
 }

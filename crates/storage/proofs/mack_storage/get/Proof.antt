@@ -24,7 +24,8 @@ start c = asked c .before .before
 within : (c : tie.Else2) → 36 * c .before .lowest .result + getD (start c .args .t1 .counts) (c .before .lowest .result) 0 ≤ 432
 within c =
     let o = storageOf (start c .args .t1) in
-    let ok = ask-legal 36 12 o (asks (start c .args .satellite) (start c .args .week) (start c .args .time)) (asked c .before .ask-refuses .ensures) (asked c .if1 .left) in
+    let ok = ask-legal 36 12 o (asks (start c .args .satellite) (start c .args .week) (start c .args .time)) (asked c .before .ask-refuses .ensures)
+    (asked c .if1 .left) in
     let few = place-few 36 o (c .before .lowest .result) (legal-at 36 12 o ok (c .before .lowest .result) (c .if2 .left)) in
     omega (arith, room 36 12 (c .before .lowest .result) (getD (o .counts) (c .before .lowest .result) 0) (c .if2 .left) few)
 

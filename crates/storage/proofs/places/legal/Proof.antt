@@ -90,11 +90,10 @@ loop-less c = search needs
 loop-again : tie.Need-loop-again Inv-loop μ-loop
 loop-again c =
     let d = c .before .before in
-    let a = start d .args in
-    (
+    let a = start d .args in (
       omega arith,
       place-on (a .messages) (a .times) (lists (start d)) (turn d .loop .p) (turn d .loop .inv .1) (d .before .time-legal .ensures) (d .if2 .left)
-      (c .before .entries-legal .ensures) (c .if3 .left),
+          (c .before .entries-legal .ensures) (c .if3 .left),
     )
 
 returns-4 : tie.Need-returns-4 Inv-loop μ-loop

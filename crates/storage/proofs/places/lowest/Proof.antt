@@ -12,7 +12,8 @@ use Rattle.storage.proofs.places.lowest.Statement.{statement}
 use Rattle.storage.proofs.places.lowest.Tie as tie
 
 abbrev Inv-loop : tie.InvT-loop
-Inv-loop timed weeks tows times week time p₀ p = (p ≤ times) × (first (timeIs timed weeks tows week time) (times - p) p ≡ first (timeIs timed weeks tows week time) times 0)
+Inv-loop timed weeks tows times week time p₀ p =
+    (p ≤ times) × (first (timeIs timed weeks tows week time) (times - p) p ≡ first (timeIs timed weeks tows week time) times 0)
 
 abbrev μ-loop : tie.MeasureT-loop
 μ-loop timed weeks tows times week time p₀ p = times - p
