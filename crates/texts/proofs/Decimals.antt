@@ -103,9 +103,12 @@ number-none [] = refl
 number-none (c ∷ s) = refl
 
 -- a turn of the loop that reads: one digit more, and never above the most
-pub number-more : (s : List ℕ) (i : ℕ) {n d r : ℕ} → i < length s → n ≡ min (number (take i s)) most → d ≡ getD s i 0 → r ≡ min (n * 10 + (d - 48)) most → r ≡ min (number (take (i + 1) s)) most
+pub number-more :
+    (s : List ℕ) (i : ℕ) {n d r : ℕ} → i < length s → n ≡ min (number (take i s)) most → d ≡ getD s i 0 → r ≡ min (n * 10 + (d - 48)) most
+    → r ≡ min (number (take (i + 1) s)) most
 number-more s i {n} {d} {r} h e f g =
-    let step : number (take (i + 1) s) ≡ number (take i s) * 10 + (getD s i 0 - 48) = rw (add-one i, take-suc s i 0 h) (number-append (take i s) (getD s i 0)) in
+    let more = number-append (take i s) (getD s i 0) in
+    let step : number (take (i + 1) s) ≡ number (take i s) * 10 + (getD s i 0 - 48) = rw (add-one i, take-suc s i 0 h) more in
     rw step (capped (number (take i s)) n (getD s i 0) d r e f g)
   where
     capped : (a n c d r : ℕ) → n ≡ min a most → d ≡ c → r ≡ min (n * 10 + (d - 48)) most → r ≡ min (a * 10 + (c - 48)) most
@@ -118,7 +121,9 @@ spelt-enough zero j n h l = absurd (not-suc-le-zero h)
 spelt-enough (suc k) zero n h l = absurd (not-suc-le-zero l)
 spelt-enough (suc k) (suc j) n h l = go (ltb n 10) refl (λ a b. spelt-enough k j (n / 10) a b)
   where
-    go : (b : Bool) → ltb n 10 ≡ b → (n / 10 < k → n / 10 < j → spelt k (n / 10) ≡ spelt j (n / 10)) → cond b [] (spelt k (n / 10)) ++ ((48 + n % 10) ∷ []) ≡ cond b [] (spelt j (n / 10)) ++ ((48 + n % 10) ∷ [])
+    go :
+        (b : Bool) → ltb n 10 ≡ b → (n / 10 < k → n / 10 < j → spelt k (n / 10) ≡ spelt j (n / 10))
+        → cond b [] (spelt k (n / 10)) ++ ((48 + n % 10) ∷ []) ≡ cond b [] (spelt j (n / 10)) ++ ((48 + n % 10) ∷ [])
     go true e ih = refl
     go false e ih = let m = ltb-false n 10 e in rw (ih (omega arith) (omega arith))
 

@@ -159,7 +159,8 @@ module _ (text bytes : List ℕ) where
   pub other-digit : (k : ℕ) {c : ℕ} → c ≡ getD (capitals bytes) k 0 → (getD text k 0 ≡ c → ⊥) → false ≡ same text (capitals bytes)
   other-digit k e ne = not-same text (capitals bytes) (λ q. ne (ap (λ (l : List ℕ). getD l k 0) q ∙ sym e))
 
-  pub all-same : (k : ℕ) → length text % 2 ≡ 0 → length text / 2 ≡ length bytes → length text ≤ k → ((j : ℕ) → j < k → getD text j 0 ≡ getD (capitals bytes) j 0)
+  pub all-same :
+      (k : ℕ) → length text % 2 ≡ 0 → length text / 2 ≡ length bytes → length text ≤ k → ((j : ℕ) → j < k → getD text j 0 ≡ getD (capitals bytes) j 0)
       → true ≡ same text (capitals bytes)
   all-same k e l h f =
       let m = capitals-long bytes in

@@ -3,18 +3,19 @@
 use mathlib.Core.Path.{_≡_, refl, sym, ap, _∙_, subst}
 use mathlib.Core.List.{List, [], _∷_, _++_}
 use mathlib.Core.Bool.{Bool, true, false, not}
-use Prim.Native.Nat.{ℕ, _+_, _-_, _/_, _≤_, _<_}
+use Prim.Native.Nat.{ℕ, _+_, _-_, _*_, _/_, _≤_, _<_}
 use native.Mathlib.Nat.{zero-add}
 use native.Mathlib.Omega.{arith}
 use lib.ListN.{length, take}
 use lib.Seq.{take-at}
 use lib.Dec.{leb}
 use borrow.Author.Tests.{lt-leb, le-leb, leb-true, leb-false, not-true, not-false, ne-eqb}
-use Rattle.layouts.specs.Answer.{refused, gives, Check, _when_, refusal}
+use Rattle.layouts.specs.Answer.{gives, Check, _when_, refusal}
 use Rattle.layouts.specs.Lists.{put as putAt}
-use Rattle.texts.specs.Puts.{Puts, puts, roomCheck, meaning-end, PutText}
-use Rattle.texts.specs.Lines.{Part, line, Written, written}
+use Rattle.texts.specs.Puts.{Puts, meaning-end, roomCheck, puts, outcome, textPut, PutText, bytesPut}
+use Rattle.texts.specs.Lines.{Part, line, Written, wrote, written}
 use Rattle.texts.specs.declared.put.End.{End}
+use Rattle.texts.specs.declared.put.End.the-variants.{At, Refused}
 use Rattle.texts.specs.Hexadecimal.{isHexadecimal, bytesOf, capitals}
 use Rattle.texts.proofs.Hexadecimals.{bytes-long, capitals-long}
 use Rattle.texts.proofs.Written.{put, taken}
@@ -39,90 +40,91 @@ hex-text text e t = sym e ∙ not-false _ t
 
 -- what is answered, by the checks
 module _ (checks : List Check) (s out : List ℕ) (at : ℕ) {q : ℕ} (e : q ≡ refusal checks) where
-  pub puts-refused : (q ≡ 0 → ⊥) → _≡_ {A = Puts} (record { answer = refused q; out = out }) (puts checks s out at)
+  puts-refused : (q ≡ 0 → ⊥) → outcome (Refused q) out ≡ puts checks s out at
   unfolding puts
   puts-refused ne = rw (← e, ne-eqb q 0 ne)
 
-  pub puts-given : q ≡ 0 → {r : ℕ} {m : List ℕ} → r ≡ at + length s → m ≡ put out at s
-      → _≡_ {A = Puts} (record { answer = gives (r ∷ []); out = m }) (puts checks s out at)
+  puts-given : q ≡ 0 → {r : ℕ} {m : List ℕ} → r ≡ at + length s → m ≡ put out at s → outcome (At r) m ≡ puts checks s out at
   unfolding puts
   puts-given z h g = rw (← e, z, h, g)
 
 -- a text for which there is no room, or there is
 module _ (s out : List ℕ) (at : ℕ) {b : Bool} (e : b ≡ leb (at + length s) (length out)) where
-  room-refusal : (cs : List Check) → not b ≡ true → 1 ≡ refusal (roomCheck s out at ∷ cs)
+  no-room : (cs : List Check) → not b ≡ true → outcome (Refused 1) out ≡ puts (roomCheck s out at ∷ cs) s out at
   unfolding refusal
-  room-refusal cs t = rw (← e, t)
+  no-room cs t = let q : 1 ≡ refusal (roomCheck s out at ∷ cs) = rw (← e, t) in puts-refused (roomCheck s out at ∷ cs) s out at q (λ z. omega arith)
 
   room-passes : (cs : List Check) → not b ≡ false → {q : ℕ} → q ≡ refusal cs → q ≡ refusal (roomCheck s out at ∷ cs)
   unfolding refusal
   room-passes cs t h = rw (← e, t) h
 
-  no-room : (cs : List Check) → not b ≡ true → _≡_ {A = Puts} (record { answer = refused 1; out = out }) (puts (roomCheck s out at ∷ cs) s out at)
-  no-room cs t = puts-refused (roomCheck s out at ∷ cs) s out at (room-refusal cs t) (λ z. omega arith)
-
-  pub text-off : not b ≡ true → _≡_ {A = Puts} (record { answer = refused 1; out = out }) (puts (roomCheck s out at ∷ []) s out at)
+  pub text-off : not b ≡ true → outcome (Refused 1) out ≡ textPut s out at
   text-off t = no-room [] t
 
-  pub text-on : not b ≡ false → {r : ℕ} {m : List ℕ} → r ≡ at + length s → m ≡ put out at s
-      → _≡_ {A = Puts} (record { answer = gives (r ∷ []); out = m }) (puts (roomCheck s out at ∷ []) s out at)
+  pub text-on : not b ≡ false → {r : ℕ} {m : List ℕ} → r ≡ at + length s → m ≡ put out at s → outcome (At r) m ≡ textPut s out at
   unfolding refusal
   text-on t h g = puts-given (roomCheck s out at ∷ []) s out at (room-passes [] t refl) refl h g
 
--- hexadecimal digits: the same, by the numbers of bytes
+-- hexadecimal digits: the same, by the number of bytes
 module _ (bytes out : List ℕ) (at : ℕ) where
-  pub digits-behind : length out < at → _≡_ {A = Puts} (record { answer = refused 1; out = out }) (puts (roomCheck (capitals bytes) out at ∷ []) (capitals bytes) out at)
-  digits-behind h = let l = capitals-long bytes in text-off (capitals bytes) out at refl (ap not (lt-leb (at + length (capitals bytes)) (length out) (omega arith)))
+  no-digits : length out < at + 2 * length bytes → outcome (Refused 1) out ≡ textPut (capitals bytes) out at
+  no-digits h =
+      let l = capitals-long bytes in
+      text-off (capitals bytes) out at refl (ap not (lt-leb (at + length (capitals bytes)) (length out) (omega arith)))
+
+  pub digits-behind : length out < at → outcome (Refused 1) out ≡ textPut (capitals bytes) out at
+  digits-behind h = no-digits (omega arith)
 
   module _ (h : at ≤ length out) where
-    pub digits-off : (length out - at) / 2 < length bytes → _≡_ {A = Puts} (record { answer = refused 1; out = out }) (puts (roomCheck (capitals bytes) out at ∷ []) (capitals bytes) out at)
-    digits-off g = let l = capitals-long bytes in text-off (capitals bytes) out at refl (ap not (lt-leb (at + length (capitals bytes)) (length out) (omega arith)))
+    pub digits-off : (length out - at) / 2 < length bytes → outcome (Refused 1) out ≡ textPut (capitals bytes) out at
+    digits-off g = no-digits (omega arith)
 
     pub digits-on : length bytes ≤ (length out - at) / 2 → {r : ℕ} {m : List ℕ} → r ≡ at + length (capitals bytes) → m ≡ put out at (capitals bytes)
-        → _≡_ {A = Puts} (record { answer = gives (r ∷ []); out = m }) (puts (roomCheck (capitals bytes) out at ∷ []) (capitals bytes) out at)
-    digits-on g e f = let l = capitals-long bytes in text-on (capitals bytes) out at refl (ap not (le-leb (at + length (capitals bytes)) (length out) (omega arith))) e f
+        → outcome (At r) m ≡ textPut (capitals bytes) out at
+    digits-on g e f =
+        let l = capitals-long bytes in
+        text-on (capitals bytes) out at refl (ap not (le-leb (at + length (capitals bytes)) (length out) (omega arith))) e f
 
 -- reading them: room for the bytes, then what the text is
-abbrev pub readChecks : List ℕ → List ℕ → ℕ → List Check
-readChecks text out at = roomCheck (bytesOf text) out at ∷ 7 when not (isHexadecimal text) ∷ []
+abbrev textChecks : List ℕ → List Check
+textChecks text = 7 when not (isHexadecimal text) ∷ []
 
 module _ (text out : List ℕ) (at : ℕ) {b : Bool} (e : b ≡ leb (at + length text / 2) (length out)) where
   room-for : b ≡ leb (at + length (bytesOf text)) (length out)
   room-for = rw (bytes-long text) e
 
-  pub read-behind : not b ≡ true → _≡_ {A = Puts} (record { answer = refused 1; out = out }) (puts (readChecks text out at) (bytesOf text) out at)
-  read-behind t = no-room (bytesOf text) out at room-for (7 when not (isHexadecimal text) ∷ []) t
+  pub read-behind : not b ≡ true → outcome (Refused 1) out ≡ bytesPut text out at
+  read-behind t = no-room (bytesOf text) out at room-for (textChecks text) t
 
   module _ (t : not b ≡ false) {d : Bool} (f : d ≡ isHexadecimal text) where
-    text-refusal : not d ≡ true → 7 ≡ refusal (7 when not (isHexadecimal text) ∷ [])
-    unfolding refusal
-    text-refusal k = rw (← f, k)
+    passes : {q : ℕ} → q ≡ refusal (textChecks text) → q ≡ refusal (roomCheck (bytesOf text) out at ∷ textChecks text)
+    passes h = room-passes (bytesOf text) out at room-for (textChecks text) t h
 
-    text-passes : not d ≡ false → 0 ≡ refusal (7 when not (isHexadecimal text) ∷ [])
+    pub read-off : not d ≡ true → outcome (Refused 7) out ≡ bytesPut text out at
     unfolding refusal
-    text-passes k = rw (← f, k)
-
-    pub read-off : not d ≡ true → _≡_ {A = Puts} (record { answer = refused 7; out = out }) (puts (readChecks text out at) (bytesOf text) out at)
     read-off k =
-        puts-refused (readChecks text out at) (bytesOf text) out at (room-passes (bytesOf text) out at room-for (7 when not (isHexadecimal text) ∷ []) t (text-refusal k)) (λ z. omega arith)
+        let q : 7 ≡ refusal (textChecks text) = rw (← f, k) in
+        puts-refused (roomCheck (bytesOf text) out at ∷ textChecks text) (bytesOf text) out at (passes q) (λ z. omega arith)
 
     pub read-on : not d ≡ false → {r : ℕ} {m : List ℕ} → r ≡ at + length (bytesOf text) → m ≡ put out at (bytesOf text)
-        → _≡_ {A = Puts} (record { answer = gives (r ∷ []); out = m }) (puts (readChecks text out at) (bytesOf text) out at)
+        → outcome (At r) m ≡ bytesPut text out at
+    unfolding refusal
     read-on k h g =
-        puts-given (readChecks text out at) (bytesOf text) out at (room-passes (bytesOf text) out at room-for (7 when not (isHexadecimal text) ∷ []) t (text-passes k)) refl h g
+        let q : 0 ≡ refusal (textChecks text) = rw (← f, k) in
+        puts-given (roomCheck (bytesOf text) out at ∷ textChecks text) (bytesOf text) out at (passes q) refl h g
 
--- a text that was made at the start of a buffer of its own
-pub put-taken :
-    (m s before : List ℕ) (at : ℕ) (r : End) {out after : List ℕ} {n : ℕ} → out ≡ put m 0 s → n ≡ 0 + length s → PutText (take n out) before at r after
-    → PutText s before at r after
-put-taken m s before at r {after = after} e h p = subst (λ (w : List ℕ). PutText w before at r after) (taken m s e (h ∙ zero-add (length s))) p
+-- a text that was made at the start of a buffer of its own; a line, likewise
+module _ (m : List ℕ) where
+  pub put-taken : (s before : List ℕ) (at : ℕ) (r : End) {out after : List ℕ} {n : ℕ} → out ≡ put m 0 s → n ≡ 0 + length s
+      → PutText (take n out) before at r after → PutText s before at r after
+  put-taken s before at r {after = after} e h p =
+      subst (λ (w : List ℕ). PutText w before at r after) (taken m s e (h ∙ zero-add (length s))) p
 
--- a line, likewise
-pub line-taken :
-    (m : List ℕ) (ps : List Part) (before : List ℕ) (at : ℕ) (r : End) {out after : List ℕ} {n : ℕ} → _≡_ {A = Written} (record { many = n; out = out }) (written ps m)
-    → PutText (take n out) before at r after → PutText (line ps) before at r after
-line-taken m ps before at r e p =
-    put-taken m (line ps) before at r (ap (λ (x : Written). x .out) e) (ap (λ (x : Written). x .many) e ∙ sym (zero-add (length (line ps)))) p
+  pub line-taken : (ps : List Part) (before : List ℕ) (at : ℕ) (r : End) {out after : List ℕ} {n : ℕ} → wrote n out ≡ written ps m
+      → PutText (take n out) before at r after → PutText (line ps) before at r after
+  line-taken ps before at r e p =
+      let many = ap (λ (x : Written). x .many) e ∙ sym (zero-add (length (line ps))) in
+      put-taken (line ps) before at r (ap (λ (x : Written). x .out) e) many p
 
 -- what is known where there is room
 pub put-fits : (s before : List ℕ) (at : ℕ) (r : End) {after : List ℕ} → at + length s ≤ length before → PutText s before at r after

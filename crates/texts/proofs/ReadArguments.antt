@@ -17,7 +17,9 @@ use Rattle.texts.specs.Arguments.{textChecks, argumentsAnswer}
 pub decimal-refused : (s : List ℕ) (a : Answer) {b : Bool} → b ≡ isDecimal s → not b ≡ true → refused 7 ≡ answered (refusal (7 when not (isDecimal s) ∷ [])) a
 decimal-refused s a e t = stop 7 (not (isDecimal s)) [] a tt (ap not (sym e) ∙ t)
 
-pub decimal-given : (s : List ℕ) {b : Bool} {v w : ℕ} → b ≡ isDecimal s → not b ≡ false → v ≡ w → gives (v ∷ []) ≡ answered (refusal (7 when not (isDecimal s) ∷ [])) (gives (w ∷ []))
+pub decimal-given :
+    (s : List ℕ) {b : Bool} {v w : ℕ} → b ≡ isDecimal s → not b ≡ false → v ≡ w
+    → gives (v ∷ []) ≡ answered (refusal (7 when not (isDecimal s) ∷ [])) (gives (w ∷ []))
 decimal-given s e t h = pass 7 (not (isDecimal s)) [] _ (ap not (sym e) ∙ t) (done _ (by-value h))
 
 -- the three together: 7 first
@@ -28,14 +30,24 @@ module _ (many : ℕ) (s w t : List ℕ) (ds : List Check) (a : Answer) where
   pub first-refused : {b : Bool} → many ≡ 3 → b ≡ isDecimal s → not b ≡ true → refused 7 ≡ answered (refusal (textChecks many s w t ++ ds)) a
   first-refused n e h = pass 7 _ _ a (ap not (eq-eqb many 3 n)) (stop 7 _ _ a tt (ap not (sym e) ∙ h))
 
-  pub second-refused : {b c : Bool} → many ≡ 3 → b ≡ isDecimal s → not b ≡ false → c ≡ isDecimal w → not c ≡ true → refused 7 ≡ answered (refusal (textChecks many s w t ++ ds)) a
+  pub second-refused :
+      {b c : Bool} → many ≡ 3 → b ≡ isDecimal s → not b ≡ false → c ≡ isDecimal w → not c ≡ true
+      → refused 7 ≡ answered (refusal (textChecks many s w t ++ ds)) a
   second-refused n e h f k = pass 7 _ _ a (ap not (eq-eqb many 3 n)) (pass 7 _ _ a (ap not (sym e) ∙ h) (stop 7 _ _ a tt (ap not (sym f) ∙ k)))
 
-  pub third-refused : {b c d : Bool} → many ≡ 3 → b ≡ isDecimal s → not b ≡ false → c ≡ isDecimal w → not c ≡ false → d ≡ isDecimal t → not d ≡ true → refused 7 ≡ answered (refusal (textChecks many s w t ++ ds)) a
-  third-refused n e h f k g l = pass 7 _ _ a (ap not (eq-eqb many 3 n)) (pass 7 _ _ a (ap not (sym e) ∙ h) (pass 7 _ _ a (ap not (sym f) ∙ k) (stop 7 _ _ a tt (ap not (sym g) ∙ l))))
+  pub third-refused :
+      {b c d : Bool} → many ≡ 3 → b ≡ isDecimal s → not b ≡ false → c ≡ isDecimal w → not c ≡ false → d ≡ isDecimal t → not d ≡ true
+      → refused 7 ≡ answered (refusal (textChecks many s w t ++ ds)) a
+  third-refused n e h f k g l =
+      pass 7 _ _ a (ap not (eq-eqb many 3 n))
+      (pass 7 _ _ a (ap not (sym e) ∙ h) (pass 7 _ _ a (ap not (sym f) ∙ k) (stop 7 _ _ a tt (ap not (sym g) ∙ l))))
 
-  all-decimal : {b c d : Bool} {r : Answer} → many ≡ 3 → b ≡ isDecimal s → not b ≡ false → c ≡ isDecimal w → not c ≡ false → d ≡ isDecimal t → not d ≡ false → r ≡ answered (refusal ds) a → r ≡ answered (refusal (textChecks many s w t ++ ds)) a
-  all-decimal n e h f k g l r = pass 7 _ _ a (ap not (eq-eqb many 3 n)) (pass 7 _ _ a (ap not (sym e) ∙ h) (pass 7 _ _ a (ap not (sym f) ∙ k) (pass 7 _ _ a (ap not (sym g) ∙ l) r)))
+  all-decimal :
+      {b c d : Bool} {r : Answer} → many ≡ 3 → b ≡ isDecimal s → not b ≡ false → c ≡ isDecimal w → not c ≡ false → d ≡ isDecimal t → not d ≡ false
+      → r ≡ answered (refusal ds) a → r ≡ answered (refusal (textChecks many s w t ++ ds)) a
+  all-decimal n e h f k g l r =
+      pass 7 _ _ a (ap not (eq-eqb many 3 n))
+      (pass 7 _ _ a (ap not (sym e) ∙ h) (pass 7 _ _ a (ap not (sym f) ∙ k) (pass 7 _ _ a (ap not (sym g) ∙ l) r)))
 
 -- what the checks of the three numbers tell
 module _ (x y z : ℕ) {q : ℕ} (e : q ≡ refusal (svnGstChecks x y z)) where
@@ -68,7 +80,9 @@ under b x u h e = go (ltb x b) refl
 same-ranges : (x y z u v w : ℕ) → u ≡ min x most → v ≡ min y most → w ≡ min z most → svnGstChecks u v w ≡ svnGstChecks x y z
 same-ranges x y z u v w e f g = rw (under 1 x u (omega arith) e, over 36 x u (omega arith) e, over 4095 y v (omega arith) f, over 604799 z w (omega arith) g)
 
-in-ranges : (x y z u v w : ℕ) → u ≡ min x most → v ≡ min y most → w ≡ min z most → refusal (svnGstChecks x y z) ≡ 0 → gives (u ∷ v ∷ w ∷ []) ≡ gives (x ∷ y ∷ z ∷ [])
+in-ranges :
+    (x y z u v w : ℕ) → u ≡ min x most → v ≡ min y most → w ≡ min z most → refusal (svnGstChecks x y z) ≡ 0
+    → gives (u ∷ v ∷ w ∷ []) ≡ gives (x ∷ y ∷ z ∷ [])
 in-ranges x y z u v w e f g r =
     let p = none-fails (svnGstChecks x y z) tt r in
     let a = ltb-false 36 x (p .1 .0) in
@@ -84,15 +98,20 @@ unfolding answered
 same-answer zero a b f = f refl
 same-answer (suc q) a b f = rw eqb·suc-zero
 
-pub uncapped : (x y z : ℕ) {u v w : ℕ} {r : Answer} → u ≡ min x most → v ≡ min y most → w ≡ min z most → r ≡ answered (refusal (svnGstChecks u v w)) (gives (u ∷ v ∷ w ∷ []))
+pub uncapped :
+    (x y z : ℕ) {u v w : ℕ} {r : Answer} → u ≡ min x most → v ≡ min y most → w ≡ min z most
+    → r ≡ answered (refusal (svnGstChecks u v w)) (gives (u ∷ v ∷ w ∷ []))
     → r ≡ answered (refusal (svnGstChecks x y z)) (gives (x ∷ y ∷ z ∷ []))
 uncapped x y z {u} {v} {w} e f g h =
     h
     ∙ ap (λ (cs : List Check). answered (refusal cs) (gives (u ∷ v ∷ w ∷ []))) (same-ranges x y z u v w e f g)
     ∙ same-answer (refusal (svnGstChecks x y z)) (gives (u ∷ v ∷ w ∷ [])) (gives (x ∷ y ∷ z ∷ [])) (in-ranges x y z u v w e f g)
 
-pub all-given : (many : ℕ) (s w t : List ℕ) {b c d : Bool} {u v k : ℕ} {r : Answer} → many ≡ 3 → b ≡ isDecimal s → not b ≡ false → c ≡ isDecimal w → not c ≡ false → d ≡ isDecimal t → not d ≡ false
+pub all-given :
+    (many : ℕ) (s w t : List ℕ) {b c d : Bool} {u v k : ℕ} {r : Answer} → many ≡ 3 → b ≡ isDecimal s → not b ≡ false → c ≡ isDecimal w → not c ≡ false
+    → d ≡ isDecimal t → not d ≡ false
     → u ≡ min (number s) most → v ≡ min (number w) most → k ≡ min (number t) most → r ≡ answered (refusal (svnGstChecks u v k)) (gives (u ∷ v ∷ k ∷ []))
     → r ≡ answered (refusal (textChecks many s w t ++ svnGstChecks (number s) (number w) (number t))) (gives (number s ∷ number w ∷ number t ∷ []))
 all-given many s w t n e h f l g m x y z r =
-    all-decimal many s w t (svnGstChecks (number s) (number w) (number t)) (gives (number s ∷ number w ∷ number t ∷ [])) n e h f l g m (uncapped (number s) (number w) (number t) x y z r)
+    all-decimal many s w t (svnGstChecks (number s) (number w) (number t)) (gives (number s ∷ number w ∷ number t ∷ [])) n e h f l g m
+    (uncapped (number s) (number w) (number t) x y z r)

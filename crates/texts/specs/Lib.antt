@@ -1,3 +1,4 @@
+pub mod Agreed
 pub mod Arguments
 pub mod Decimal
 pub mod Hexadecimal

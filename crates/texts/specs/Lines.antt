@@ -39,8 +39,11 @@ pub record Written : Type 0 where
 abbrev pub written : List Part → List ℕ → Written
 written ps out = record { many = length (line ps); out = put out 0 (length (line ps)) (line ps) }
 
+abbrev pub wrote : ℕ → List ℕ → Written
+wrote n out = record { many = n; out = out }
+
 abbrev Writes : List Part → List ℕ → ℕ → List ℕ → Type 0
-Writes ps before r after = _≡_ {A = Written} (record { many = r; out = after }) (written ps before)
+Writes ps before r after = wrote r after ≡ written ps before
 
 -- the parts of each line: "S 3 1200 60"
 abbrev pub subframeParts : ℕ → ℕ → ℕ → List Part

@@ -32,12 +32,15 @@ puts checks s out at =
     cond (eqb (refusal checks) 0) (record { answer = gives ((at + length s) ∷ []); out = put out at (length s) s })
     (record { answer = refused (refusal checks); out = out })
 
-abbrev pub PutsWith : List Check → List ℕ → List ℕ → ℕ → End → List ℕ → Type 0
-PutsWith checks s before at r after = _≡_ {A = Puts} (record { answer = meaning-end r; out = after }) (puts checks s before at)
+abbrev pub outcome : End → List ℕ → Puts
+outcome r out = record { answer = meaning-end r; out = out }
 
 -- any text: room for it is all that is asked
+abbrev pub textPut : List ℕ → List ℕ → ℕ → Puts
+textPut s out at = puts (roomCheck s out at ∷ []) s out at
+
 abbrev pub PutText : List ℕ → List ℕ → ℕ → End → List ℕ → Type 0
-PutText s before at r after = PutsWith (roomCheck s before at ∷ []) s before at r after
+PutText s before at r after = outcome r after ≡ textPut s before at
 
 abbrev pub PutWords : List ℕ → ℕ → List ℕ → End → List ℕ → Type 0
 PutWords before at words r after = PutText words before at r after
@@ -52,6 +55,8 @@ abbrev pub PutNewline : List ℕ → ℕ → End → List ℕ → Type 0
 PutNewline before at r after = PutText (10 ∷ []) before at r after
 
 -- the bytes that a text spells: room for them, and then 7, "another argument outside its stated range", for a text that is not hexadecimal
+abbrev pub bytesPut : List ℕ → List ℕ → ℕ → Puts
+bytesPut text out at = puts (roomCheck (bytesOf text) out at ∷ 7 when not (isHexadecimal text) ∷ []) (bytesOf text) out at
+
 abbrev pub ReadHexadecimal : List ℕ → ℕ → List ℕ → End → List ℕ → Type 0
-ReadHexadecimal before at text r after =
-    PutsWith (roomCheck (bytesOf text) before at ∷ 7 when not (isHexadecimal text) ∷ []) (bytesOf text) before at r after
+ReadHexadecimal before at text r after = outcome r after ≡ bytesPut text before at

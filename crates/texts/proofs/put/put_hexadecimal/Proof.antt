@@ -21,7 +21,8 @@ mul-many : tie.Need-mul-many Inv-loop μ-loop
 mul-many c = omega arith
 
 loop-holds : tie.Need-loop-holds Inv-loop μ-loop
-loop-holds c = (omega arith, refl, paste-zero (c .before .before .args .out .now) (c .before .before .args .at) (capitals (c .before .before .args .bytes .now)))
+loop-holds c =
+    (omega arith, refl, paste-zero (c .before .before .args .out .now) (c .before .before .args .at) (capitals (c .before .before .args .bytes .now)))
 
 capital-requires : tie.Need-capital-requires Inv-loop μ-loop
 capital-requires c κs = omega arith
