@@ -8,7 +8,8 @@ use mathlib.Core.Path.{_≡_, refl, sym}
 use mathlib.Core.Bool.{Bool, true, false, cond, _&&_}
 use lib.Dec.{eqb}
 use borrow.Author.Tests.{eqb-true, eqb-false}
-use Rattle.storage.specs.Store.{all, first}
+use Rattle.layouts.specs.Lists.{all}
+use Rattle.storage.specs.Store.{first}
 
 -- A test that holds of every number below n: the loop's ways.
 module _ (test : ℕ → Bool) where

@@ -2,7 +2,8 @@
 -- Assumes nothing.
 use mathlib.Core.Path.{refl}
 use Rattle.layouts.specs.Answer.{refusal, answered}
-use Rattle.storage.specs.Store.{all, first, legalEntry, legalTime, legalEntries, legal, isTime, nextPlace, placeFor, numberFor, entered, stored}
+use Rattle.layouts.specs.Lists.{all}
+use Rattle.storage.specs.Store.{first, legalEntry, legalTime, legalEntries, legal, isTime, nextPlace, placeFor, numberFor, entered, stored}
 use Rattle.storage.specs.Store.{store, reached, firstOf, foundAmong, get}
 use Rattle.storage.specs.StoreKeeps.{TwoPlaces, PlaceLasts}
 

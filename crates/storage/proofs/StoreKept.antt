@@ -8,16 +8,18 @@ use mathlib.Core.Bool.{Bool, true, false, not, _&&_}
 use lib.ListN.{length, getD, take, drop}
 use lib.Dec.{ltb, eqb}
 use borrow.Author.Tests.{eq-eqb, eqb-true, eqb-false, ltb-true, ltb-false, not-true, not-false}
+use Rattle.layouts.proofs.Timed.{satellite-fits, all-fit}
 use Rattle.layouts.specs.Answer.{gives, refusal}
 use Rattle.storage.specs.Store.{Storage, State, Call, first, entry, isTime, hasTime, askChecks, nextPlace, moves, placeFor, numberFor, placeOf}
-use Rattle.storage.specs.Store.{numberOf, put, stored, store, reached, firstOf, found, get}
+use Rattle.layouts.specs.Lists.{put}
+use Rattle.storage.specs.Store.{numberOf, stored, store, reached, firstOf, found, get}
 use Rattle.storage.specs.StoreKeeps.{newStore, next, after, entryOf, firstByte, atTime, reachedBy, movesOn, bytesAt, isStored, empties, lasts, Keeps}
 use Rattle.storage.specs.StoreKeeps.{StoreKeeps, StoreFinds}
 use Rattle.storage.proofs.Bytes.{put-long, put-before, put-behind, part-put, part-before, part-behind}
 use Rattle.storage.proofs.Searches.{and-left, and-right, and-both, first-is, first-before}
 use Rattle.storage.proofs.StoreRecord.{room, legal-at, place-few}
-use Rattle.storage.specs.StoreInner.{sentBy}
-use Rattle.storage.proofs.Stored.{ask-fine, record-on, Fine, find-at, get-there}
+use Rattle.storage.specs.inner.Places.{sentBy}
+use Rattle.storage.proofs.Stored.{record-on, Fine, find-at, get-there}
 use Rattle.storage.proofs.StoreSound.{apart, Sound, new-sound, other-count, other-satellite, other-status, other-time, own-time, own-count}
 use Rattle.storage.proofs.StoreSound.{own-satellite, own-status, state-stored, state-refused, fine-of, fits, store-sound, after-sound}
 
@@ -59,7 +61,7 @@ module _ (messages times : ℕ) (s : State) (c : Call) (pos : 0 < messages) wher
       inside = omega (arith, f .memory-long, room messages times q (suc j) hq hj)
 
       go : (b : Bool) → ltb (entry messages q j) (entryOf messages times s c) ≡ b
-          → take 60 (drop (60 * entry messages q j) (put (s .memory) (entryOf messages times s c) (c .message)))
+          → take 60 (drop (60 * entry messages q j) (put (s .memory) (firstByte messages times s c) 60 (c .message)))
           ≡ take 60 (drop (60 * entry messages q j) (s .memory))
       go true e =
           part-before (s .memory) (c .message) (firstByte messages times s c) 60 (f .message-long) (fits messages times s c pos f)
@@ -285,7 +287,8 @@ module _ (messages times : ℕ) (s : State) (p j : ℕ) (c : Call) (hp : p < tim
       let own = eq-eqb _ (c .asked .satellite) (h .sent) in
       let it : first sent count 0 ≡ j = first-is sent count 0 j (omega arith) (omega (arith, h .below)) own (λ k a b. h .none-before k b) in
       let here = find-at (s .storage .satellites) (s .storage .statuses) (messages * p) count (c .asked .satellite) (sym it) (h .below) in
-      let fine = ask-fine (c .asked) some few in-week in-time in
+      let fits = satellite-fits (c .asked .satellite) some few in
+      let fine = all-fit (c .asked .satellite) (c .asked .week) (c .asked .time) fits refl in-week in-time in
       let checks = record-on messages times (s .storage) (c .asked) (sym (z .is-legal)) refl fine in
       sym
       (ap (λ (x : ℕ). gives (60 * entry messages p j ∷ x ∷ [])) (sym (h .status-is))

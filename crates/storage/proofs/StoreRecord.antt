@@ -10,8 +10,9 @@ use mathlib.Core.Bool.{Bool, true, false, cond, not, _&&_}
 use lib.ListN.{getD}
 use lib.Dec.{leb, ltb, eqb}
 use borrow.Author.Tests.{le-leb, lt-leb, le-ltb, lt-ltb, eq-eqb, ne-eqb, eqb-true, eqb-false, leb-true, ltb-true, not-true, not-false}
-use Rattle.storage.specs.Store.{Storage, all, first, legalEntry, legalTime, legalEntries, legalPlace, legal, isTime, nextPlace}
-use Rattle.storage.specs.StoreInner.{timeIs, sentBy}
+use Rattle.layouts.specs.Lists.{all}
+use Rattle.storage.specs.Store.{Storage, first, legalEntry, legalTime, legalEntries, legalPlace, legal, isTime, nextPlace}
+use Rattle.storage.specs.inner.Places.{timeIs, sentBy}
 use Rattle.storage.proofs.Searches.{all-more, all-not, all-done, first-here, first-later, first-none, and-left, and-right, all-at}
 
 -- A message's satellite and status.

@@ -11,45 +11,23 @@ use borrow.Author.Tests.{le-ltb, lt-ltb, eq-eqb, ne-eqb, eqb-true, eqb-false, lt
 use Rattle.layouts.specs.Answer.{Answer, refused, nothing, gives, refusal}
 use Rattle.storage.specs.declared.places.Admitted.{Admitted}
 use Rattle.storage.specs.declared.places.Admitted.the-variants.{Refused as NotAdmitted, At}
-use Rattle.storage.specs.StoreInner.{Admits, AdmitsAt, fullAt, movesAt, sentBy}
+use Rattle.storage.specs.inner.Places.{Admits, AdmitsAt, fullAt, movesAt, sentBy}
 use Rattle.layouts.proofs.Answers.{none-fails, stopped, went-on, refused-with, given-with}
-use Rattle.storage.specs.Store.{Storage, State, Asked, Call, Outcome, first, entry, legalPlace, legal, isTime, hasTime, timeChecks, askChecks, full}
-use Rattle.storage.specs.Store.{statusChecks, entryChecks, storeChecks, nextPlace, moves, placeFor, numberFor, placeOf, numberOf, entered, put}
+use Rattle.layouts.specs.Gst.{svnGstChecks}
+use Rattle.storage.specs.Store.{Storage, State, Asked, Call, Outcome, first, entry, legalPlace, legal, isTime, hasTime, askChecks, full}
+use Rattle.layouts.specs.Lists.{put}
+use Rattle.storage.specs.Store.{statusChecks, entryChecks, storeChecks, nextPlace, moves, placeFor, numberFor, placeOf, numberOf, entered}
 use Rattle.storage.specs.Store.{stored, store, reached, firstOf, foundAmong, found, get}
 use Rattle.storage.proofs.Searches.{and-both, and-first, and-last}
 use Rattle.storage.proofs.StoreRecord.{next-below, legal-current, legal-at, place-few, place-untimed}
 
 -- The refusals of what is asked.
-module _ (a : Asked) where
-  pub ask-low : a .satellite < 1 → 2 ≡ refusal (timeChecks a)
-  unfolding refusal
-  ask-low h = rw (lt-ltb (a .satellite) 1 h)
-
-  module _ (h1 : 1 ≤ a .satellite) where
-    pub ask-high : 36 < a .satellite → 2 ≡ refusal (timeChecks a)
-    unfolding refusal
-    ask-high h = rw (le-ltb (a .satellite) 1 h1, lt-ltb 36 (a .satellite) h)
-
-    module _ (h2 : a .satellite ≤ 36) where
-      pub ask-week : 4095 < a .week → 3 ≡ refusal (timeChecks a)
-      unfolding refusal
-      ask-week h = rw (le-ltb (a .satellite) 1 h1, le-ltb 36 (a .satellite) h2, lt-ltb 4095 (a .week) h)
-
-      module _ (h3 : a .week ≤ 4095) where
-        pub ask-time : 604799 < a .time → 4 ≡ refusal (timeChecks a)
-        unfolding refusal
-        ask-time h = rw (le-ltb (a .satellite) 1 h1, le-ltb 36 (a .satellite) h2, le-ltb 4095 (a .week) h3, lt-ltb 604799 (a .time) h)
-
-        pub ask-fine : a .time ≤ 604799 → 0 ≡ refusal (timeChecks a)
-        unfolding refusal
-        ask-fine h = rw (le-ltb (a .satellite) 1 h1, le-ltb 36 (a .satellite) h2, le-ltb 4095 (a .week) h3, le-ltb 604799 (a .time) h)
-
 module _ (messages times : ℕ) (o : Storage) (a : Asked) {b : Bool} (e : b ≡ legal messages times o) where
   pub record-off : not b ≡ true → 12 ≡ refusal (askChecks messages times o a)
   unfolding refusal
   record-off h = rw (← e, h)
 
-  pub record-on : not b ≡ false → {r : ℕ} → r ≡ refusal (timeChecks a) → r ≡ refusal (askChecks messages times o a)
+  pub record-on : not b ≡ false → {r : ℕ} → r ≡ refusal (svnGstChecks (a .satellite) (a .week) (a .time)) → r ≡ refusal (askChecks messages times o a)
   unfolding refusal
   record-on h g = rw (← e, h) g
 
@@ -201,7 +179,7 @@ module _ (messages times : ℕ) (s : State) (c : Call) {q : ℕ} (e : q ≡ refu
   store-stored z = rw (← e, z)
 
 pub stored-is : (messages times : ℕ) (s : State) (c : Call) {p j : ℕ} {o : Storage} {m : List ℕ} → p ≡ placeOf times s c → j ≡ numberOf s c
-    → o ≡ entered messages (s .storage) p j (c .asked) (c .status) → m ≡ put (s .memory) (entry messages p j) (c .message)
+    → o ≡ entered messages (s .storage) p j (c .asked) (c .status) → m ≡ put (s .memory) (60 * entry messages p j) 60 (c .message)
     → _≡_ {A = State} (record { storage = o; memory = m }) (stored messages times s c)
 unfolding stored
 stored-is messages times s c ep ej eo em = rw (eo, em, ep, ej)
@@ -229,7 +207,7 @@ module _ (messages times : ℕ) (s : State) (c : Call) (x : Admitted) (e : Admit
 
     pub told-stored :
         {o : Storage} {m : List ℕ} → o ≡ entered messages (s .storage) p j (c .asked) (c .status)
-        → m ≡ put (s .memory) (entry messages p j) (c .message)
+        → m ≡ put (s .memory) (60 * entry messages p j) 60 (c .message)
         → _≡_ {A = Outcome} (record { state = record { storage = o; memory = m }; answer = gives [] }) (store messages times s c)
     told-stored eo em =
         ap (λ (t : State). record { state = t; answer = gives [] }) (stored-is messages times s c told-place told-number eo em)

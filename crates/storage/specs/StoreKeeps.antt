@@ -8,6 +8,7 @@ use mathlib.Core.Path.{_≡_}
 use lib.ListN.{length, getD, take, drop, replicate}
 use lib.Dec.{eqb}
 use Rattle.layouts.specs.Answer.{nothing, gives, refusal}
+use Rattle.runs.specs.Runs.{afterAll}
 use Rattle.storage.specs.Store.{State, newStorage, Call, entry, legal, hasTime, storeChecks, nextPlace, moves, placeOf, numberOf}
 use Rattle.storage.specs.Store.{store, reached, firstOf, get}
 
@@ -19,8 +20,7 @@ abbrev pub next : ℕ → ℕ → State → Call → State
 next messages times s c = store messages times s c .state
 
 abbrev pub after : ℕ → ℕ → State → List Call → State
-after messages times s [] = s
-after messages times s (c ∷ cs) = after messages times (next messages times s c) cs
+after messages times s cs = afterAll (next messages times) s cs
 
 -- the number of the message that a call stores, and of the first of its 60 bytes
 abbrev pub entryOf : ℕ → ℕ → State → Call → ℕ

@@ -3,12 +3,14 @@ use crate::places;
 use crate::places::Admitted;
 use crate::places::Asked;
 use crate::places::Place;
+use layouts::gst;
 ghost use mathlib.Core.Path.{_≡_};
 ghost use Prim.Native.Nat.{_+_, _*_, _≤_, _<_};
 ghost use lib.ListN.{length};
 ghost use Rattle.layouts.specs.Answer.{refusal};
-ghost use Rattle.storage.specs.Store.{askChecks, entered, put};
-ghost use Rattle.storage.specs.StoreInner.{askedOf, Admits};
+ghost use Rattle.layouts.specs.Lists.{put};
+ghost use Rattle.storage.specs.Store.{askChecks, entered};
+ghost use Rattle.storage.specs.inner.Places.{askedOf, Admits};
 ghost use Rattle.storage.specs.StorePromises.{storageOf, asks, call, NewStorage, StoreMack, GetMack};
 
 // What each place and each message of it has; the bytes of the messages are lent by the caller.
@@ -58,7 +60,7 @@ pub fn new() -> MackStorage
 // Message `i` goes to its place in the lent bytes.
 fn copy_message(memory: &mut [u8], i: usize, message: &[u8])
     requires { ⌜ (60 * i + 60 ≤ length (now memory)) × (length (now message) ≡ 60) ⌝ }
-    ensures { λ r. ⌜ now (memory .exit) ≡ put (now (memory .entry)) i (now (message .entry)) ⌝ }
+    ensures { λ r. ⌜ now (memory .exit) ≡ put (now (memory .entry)) (60 * i) 60 (now (message .entry)) ⌝ }
 {
     let at = 60 * i;
     let mut k = 0;
@@ -103,7 +105,7 @@ fn ask_refuses(storage: MackStorage, asked: Asked) -> u8
     ) {
         return 12;
     }
-    places::asked_refuses(asked)
+    gst::refuses(asked.satellite as u64, asked.week as u64, asked.time as u64)
 }
 
 // Where a message of that satellite, time and status goes, by this record.

@@ -6,9 +6,9 @@ ghost use Prim.Native.Nat.{_+_, _≤_, _<_};
 ghost use lib.ListN.{length, getD};
 ghost use lib.Dec.{eqb};
 ghost use Rattle.layouts.specs.Answer.{refusal as refusalOf};
-ghost use Rattle.storage.specs.Store.{legalEntry, legalTime, legalEntries, legal as legalOf, isTime, timeChecks, statusChecks};
+ghost use Rattle.storage.specs.Store.{legalEntry, legalTime, legalEntries, legal as legalOf, isTime, statusChecks};
 ghost use Rattle.storage.specs.Store.{nextPlace, first as firstNumber, foundAmong};
-ghost use Rattle.storage.specs.StoreInner.{askedOf, lent, timeIs, sentBy, Fits, AdmitsAt};
+ghost use Rattle.storage.specs.inner.Places.{askedOf, lent, timeIs, sentBy, Fits, AdmitsAt};
 ghost use Rattle.storage.specs.StorePromises.{meaning-found};
 
 // What is asked for, or stored: a satellite and a time.
@@ -171,25 +171,6 @@ fn first_of(satellites: &[u8], at: usize, many: usize, satellite: u8) -> usize
         j += 1;
     }
     j
-}
-
-// The refusal number of a satellite and a time; 0 for none.
-pub(crate) fn asked_refuses(asked: Asked) -> u8
-    ensures { λ r. ⌜ r ≡ refusalOf (timeChecks (askedOf asked)) ⌝ }
-{
-    if asked.satellite < 1 {
-        return 2;
-    }
-    if 36 < asked.satellite {
-        return 2;
-    }
-    if 4095 < asked.week {
-        return 3;
-    }
-    if 604799 < asked.time {
-        return 4;
-    }
-    0
 }
 
 // The first message of the satellite among `many` from number `at` on.

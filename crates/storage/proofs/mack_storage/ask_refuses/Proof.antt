@@ -14,11 +14,30 @@ legal-requires c κs = search needs
 returns : tie.Need-returns
 returns c = search record-off
 
-asked-refuses-requires : tie.Need-asked-refuses-requires
-asked-refuses-requires c κs = search needs
+cast-refuses : tie.Need-cast-refuses
+cast-refuses c = search needs
+
+cast-refuses-2 : tie.Need-cast-refuses-2
+cast-refuses-2 c = search needs
+
+cast-refuses-3 : tie.Need-cast-refuses-3
+cast-refuses-3 c = search needs
+
+refuses-requires : tie.Need-refuses-requires
+refuses-requires c κs = search needs
 
 returns-2 : tie.Need-returns-2
 returns-2 c = search record-on
 
 pub ask-refuses-spec : {M : Type 1} → statement M
-ask-refuses-spec = tie.close (tie.spec cast-current legal-requires returns asked-refuses-requires returns-2)
+ask-refuses-spec =
+    tie.close
+    (tie.spec
+    cast-current
+    legal-requires
+    returns
+    cast-refuses
+    cast-refuses-2
+    cast-refuses-3
+    refuses-requires
+    returns-2)

@@ -6,7 +6,7 @@ use mathlib.Core.List.{List}
 use Prim.Native.Nat.{ℕ, _+_, _*_, _≤_, _-_}
 use native.Mathlib.Numerals.{add-one}
 use lib.ListN.{length}
-use Rattle.storage.specs.Store.{put}
+use Rattle.layouts.specs.Lists.{put}
 use lib.Seq.{paste, paste-zero, paste-suc, take-all}
 use native.Mathlib.Omega.{arith}
 use Rattle.storage.proofs.mack_storage.copy_message.Statement.{statement}
@@ -55,7 +55,7 @@ returns c =
     let h = c .before .loop in
     let end : h .k ≡ 60 = omega arith in
     rw end at (h .inv .2)
-    ∙ ap (λ (l : List ℕ). put (a .memory .now) (a .i) l) (take-all 60 (a .message .now) (omega arith))
+    ∙ ap (λ (l : List ℕ). put (a .memory .now) (60 * a .i) 60 l) (take-all 60 (a .message .now) (omega arith))
 
 pub copy-message-spec : {M : Type 1} → statement M
 copy-message-spec =

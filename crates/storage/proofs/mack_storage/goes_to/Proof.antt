@@ -1,7 +1,7 @@
 -- `mack_storage::goes_to`: the refusals, then the numbers of the current place.
 -- Assumes nothing.
 use Prim.Native.Nat.{_<_}
-use Rattle.storage.specs.StoreInner.{askedOf}
+use Rattle.storage.specs.inner.Places.{askedOf}
 use Rattle.storage.specs.StorePromises.{storageOf}
 use Rattle.storage.proofs.Stored.{not-asked, told-there, ask-legal}
 use Rattle.storage.proofs.StoreRecord.{legal-current}

@@ -4,7 +4,7 @@ use mathlib.Core.Path.{_≡_, sym}
 use Prim.Native.Nat.{_≤_, _-_}
 use native.Mathlib.Omega.{arith}
 use borrow.Author.Needs.{needs}
-use Rattle.storage.specs.Store.{all}
+use Rattle.layouts.specs.Lists.{all}
 use Rattle.storage.proofs.Searches.{all-none}
 use Rattle.storage.proofs.StoreRecord.{legalAt, entries-more, entries-end}
 use Rattle.storage.proofs.places.entries_legal.Statement.{statement}

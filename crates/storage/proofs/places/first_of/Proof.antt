@@ -6,7 +6,7 @@ use native.Mathlib.Omega.{arith}
 use borrow.Author.Needs.{needs}
 use Rattle.storage.specs.Store.{first}
 use Rattle.storage.proofs.Searches.{first-start}
-use Rattle.storage.specs.StoreInner.{sentBy}
+use Rattle.storage.specs.inner.Places.{sentBy}
 use Rattle.storage.proofs.StoreRecord.{sent-here, sent-later, sent-none}
 use Rattle.storage.proofs.places.first_of.Statement.{statement}
 use Rattle.storage.proofs.places.first_of.Tie as tie

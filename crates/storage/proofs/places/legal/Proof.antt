@@ -6,8 +6,9 @@ use lib.ListN.{getD}
 use native.Mathlib.Omega.{arith}
 use borrow.Author.Needs.{needs}
 use mathlib.Core.Bool.{true}
-use Rattle.storage.specs.Store.{Storage, all, legalPlace}
-use Rattle.storage.specs.StoreInner.{lent}
+use Rattle.layouts.specs.Lists.{all}
+use Rattle.storage.specs.Store.{Storage, legalPlace}
+use Rattle.storage.specs.inner.Places.{lent}
 use Rattle.storage.proofs.Searches.{all-none}
 use Rattle.storage.proofs.StoreRecord.{room, time-count, current-off, place-time-off, place-entries-off, place-on, places-end}
 use Rattle.storage.proofs.places.legal.Statement.{statement}

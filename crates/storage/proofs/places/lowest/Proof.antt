@@ -6,7 +6,7 @@ use native.Mathlib.Omega.{arith}
 use borrow.Author.Needs.{needs}
 use Rattle.storage.specs.Store.{first}
 use Rattle.storage.proofs.Searches.{first-start}
-use Rattle.storage.specs.StoreInner.{timeIs}
+use Rattle.storage.specs.inner.Places.{timeIs}
 use Rattle.storage.proofs.StoreRecord.{time-here, time-later, time-nowhere}
 use Rattle.storage.proofs.places.lowest.Statement.{statement}
 use Rattle.storage.proofs.places.lowest.Tie as tie

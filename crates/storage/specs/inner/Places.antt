@@ -1,4 +1,4 @@
--- What inner functions of the store need and do. No promise of a public function cites this file.
+-- What inner functions of the store need and do.
 -- Assumes nothing.
 use Prim.Native.Nat.{ℕ, _+_, _*_, _≤_}
 use mathlib.Core.Path.{_≡_}
