@@ -8,11 +8,11 @@ use Rattle.texts.proofs.Written.{one-digit, digit-more}
 use Prim.Native.Nat.{ℕ, _<_}
 use borrow.Fn.Kinds.{In}
 use borrow.Fn.PlainCycle.{Measures, is, falls, and}
-use Rattle.texts.proofs.lines.put_number.Reads as put-number
-use Rattle.texts.proofs.lines.put_number.Kinds as put-number-kinds
-use Rattle.texts.proofs.lines.+put_number.Lts-put_number as put-number-lts
-use Rattle.texts.proofs.lines.+put_number.{statement}
-use Rattle.texts.proofs.lines.+put_number.Tie.{close}
+use Rattle.texts.proofs.put.put_number.Reads as put-number
+use Rattle.texts.proofs.put.put_number.Kinds as put-number-kinds
+use Rattle.texts.proofs.put.+put_number.Lts-put_number as put-number-lts
+use Rattle.texts.proofs.put.+put_number.{statement}
+use Rattle.texts.proofs.put.+put_number.Tie.{close}
 
 abbrev μ-put-number : Measures 1 put-number-kinds.ps ℕ
 μ-put-number κs a = a .1 .1 .0
@@ -65,13 +65,15 @@ put-number-returns :
     (put-number-below t, put-number.Post)
     (put-number-at t)
     put-number.Post
-put-number-returns t c = one-digit (c .before .before .args .out .now) (c .before .before .args .at) (c .before .before .args .n) (c .if1 .taken) (c .before .before .pre .1)
+put-number-returns t c = let s = c .before .before in one-digit (s .args .out .now) (s .args .at) (s .args .n) (c .if1 .taken) (s .pre .1)
 
 put-number-put-number-requires : (t : ℕ) → put-number-lts.Need-put-number-requires (
   put-number-below t,
   put-number.Post,
 ) (put-number-at t) put-number.Post
-put-number-put-number-requires t c κs = (omega (arith, c .before .before .before .pre .0), omega (arith, ten-longer (c .before .before .before .args .n) (c .before .if1 .left), c .before .before .before .pre .1))
+put-number-put-number-requires t c κs =
+    let s = c .before .before .before in
+    (omega (arith, s .pre .0), omega (arith, ten-longer (s .args .n) (c .before .if1 .left), s .pre .1))
 
 put-number-cast-out-2 : (t : ℕ) → put-number-lts.Need-cast-out-2 (
   put-number-below t,
@@ -89,13 +91,19 @@ put-number-slice-write-out-2 : (t : ℕ) → put-number-lts.Need-slice-write-out
   put-number-below t,
   put-number.Post,
 ) (put-number-at t) put-number.Post
-put-number-slice-write-out-2 t c = omega (arith, ten-longer (c .before .before .before .before .before .before .args .n) (c .before .before .before .before .if1 .left), c .before .before .before .before .before .before .pre .1, c .before .before .put-number .ensures .1, c .before .before .put-number .kept .0)
+put-number-slice-write-out-2 t c =
+    let p = c .before .before in
+    let s = p .before .before .before .before in
+    omega (arith, ten-longer (s .args .n) (p .before .before .if1 .left), s .pre .1, p .put-number .ensures .1, p .put-number .kept .0)
 
 put-number-add-result-2 : (t : ℕ) → put-number-lts.Need-add-result-2 (
   put-number-below t,
   put-number.Post,
 ) (put-number-at t) put-number.Post
-put-number-add-result-2 t c = omega (arith, ten-longer (c .before .before .before .before .before .before .args .n) (c .before .before .before .before .if1 .left), c .before .before .before .before .before .before .pre .1, c .before .before .put-number .ensures .1, c .before .before .put-number .kept .0)
+put-number-add-result-2 t c =
+    let p = c .before .before in
+    let s = p .before .before .before .before in
+    omega (arith, ten-longer (s .args .n) (p .before .before .if1 .left), s .pre .1, p .put-number .ensures .1, p .put-number .kept .0)
 
 put-number-same-length-2 : (t : ℕ) → put-number-lts.Need-same-length-2 (
   put-number-below t,
@@ -107,7 +115,10 @@ put-number-returns-2 : (t : ℕ) → put-number-lts.Need-returns-2 (
   put-number-below t,
   put-number.Post,
 ) (put-number-at t) put-number.Post
-put-number-returns-2 t c = digit-more (c .before .before .before .before .before .before .args .out .now) (c .before .before .before .before .before .before .args .at) (c .before .before .before .before .before .before .args .n) (c .before .before .before .before .if1 .left) (c .before .before .before .before .before .before .pre .1) (c .before .before .put-number .ensures .0) (c .before .before .put-number .ensures .1)
+put-number-returns-2 t c =
+    let p = c .before .before in
+    let s = p .before .before .before .before in
+    digit-more (s .args .out .now) (s .args .at) (s .args .n) (p .before .before .if1 .left) (s .pre .1) (p .put-number .ensures .0) (p .put-number .ensures .1)
 
 pub +put-number-spec : {M : Type 1} → statement M
 +put-number-spec = close μ-put-number λ t. put-number-lts.spec (
