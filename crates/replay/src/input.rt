@@ -4,7 +4,7 @@ use crate::held::Held;
 use crate::pages;
 use crate::pages::Running;
 use crate::print;
-use collectors::replay::PageReplay;
+use page_replay::replay::PageReplay;
 use libc::STDIN_FILENO;
 
 // A replay between two pieces: the pages so far, and the bytes of the next one.

@@ -1,0 +1,53 @@
+-- `replay::feed_page`: a page step of the definition, one function for each part.
+-- Assumes nothing.
+use Rattle.subframes.specs.SubframePromises.{outcome}
+use Rattle.page_replay.specs.ReplayPromises.{state}
+use Rattle.page_replay.proofs.PageSteps.{fed-is}
+use borrow.Author.Needs.{needs}
+use Rattle.page_replay.proofs.page_step.feed_page.Statement.{statement}
+use Rattle.page_replay.proofs.page_step.feed_page.Tie as tie
+
+is-used-requires : tie.Need-is-used-requires
+is-used-requires c κs = search needs
+
+osnma-requires : tie.Need-osnma-requires
+osnma-requires c κs = search needs
+
+slice-aggregate-feed : tie.Need-slice-aggregate-feed
+slice-aggregate-feed c = search needs
+
+feed-requires : tie.Need-feed-requires
+feed-requires c κs = search needs
+
+pass-on-requires : tie.Need-pass-on-requires
+pass-on-requires c κs = search needs
+
+tally-requires : tie.Need-tally-requires
+tally-requires c κs = (c .before .before .before .before .before .before .before .before .before .before .before .before .before .before .before .before .before .before .before .before .before .before .pre .0, c .before .before .before .before .before .before .before .before .before .before .before .before .before .before .before .before .before .before .before .before .before .before .pre .1)
+
+same-length : tie.Need-same-length
+same-length c = search needs
+
+same-length-2 : tie.Need-same-length-2
+same-length-2 c = search needs
+
+same-length-3 : tie.Need-same-length-3
+same-length-3 c = search needs
+
+returns : tie.Need-returns
+returns c = let a = c .before .before .before .before .before .before .before .before .before .before .before .before .before .before .before .before .before .before .before .before .before .before .before .args in let p = c .before .before .before .before .before .before .before .before .before .before .before .feed in fed-is (state (a .«record») (a .hkroot .now) (a .mack .now) (a .dsm .now)) (a .page .now) {f = outcome (p .result) (p .last .1 .0) (p .last .1 .1 .0)} (c .before .before .before .before .before .before .before .before .before .before .before .before .before .before .before .osnma .ensures) (c .before .before .before .before .before .before .before .before .before .before .before .before .before .before .before .before .is-used .ensures (a .hkroot .now) (a .mack .now) (c .before .before .before .before .before .before .before .before .before .before .before .before .before .before .before .osnma .result)) (p .ensures) (c .before .before .before .pass-on .ensures) (c .tally .ensures _ _ _ (a .hkroot .now) (a .mack .now) (a .dsm .now))
+
+pub feed-page-spec : {M : Type 1} → statement M
+feed-page-spec =
+    tie.close
+    (tie.spec
+    is-used-requires
+    osnma-requires
+    slice-aggregate-feed
+    feed-requires
+    pass-on-requires
+    tally-requires
+    same-length
+    same-length-2
+    same-length-3
+    returns)

@@ -1,0 +1,58 @@
+-- `replay::replay`: the refusals, then the pages.
+-- Assumes nothing.
+use Rattle.page_replay.specs.ReplayInner.{ran}
+use native.Mathlib.Omega.{arith}
+use Rattle.page_replay.specs.ReplayPromises.{state}
+use Rattle.page_replay.proofs.PageRefusals.{legal, legal-range, legal-room, replay-refused, replay-done}
+use borrow.Author.Needs.{needs}
+use Rattle.page_replay.proofs.replay.replay.Statement.{statement}
+use Rattle.page_replay.proofs.replay.replay.Tie as tie
+
+refuses-requires : tie.Need-refuses-requires
+refuses-requires c κs = search needs
+
+same-length : tie.Need-same-length
+same-length c = search needs
+
+same-length-2 : tie.Need-same-length-2
+same-length-2 c = search needs
+
+same-length-3 : tie.Need-same-length-3
+same-length-3 c = search needs
+
+returns : tie.Need-returns
+returns c = let a = c .before .before .before .before .before .before .before .before .before .args in replay-refused (state (a .«record») (a .hkroot .now) (a .mack .now) (a .dsm .now)) (a .pages .now) (a .budget) (c .before .refuses .ensures) (c .if1 .taken)
+
+smaller-requires : tie.Need-smaller-requires
+smaller-requires c κs = search needs
+
+run-requires : tie.Need-run-requires
+run-requires c κs = let a = c .before .before .before .before .before .before .before .before .before .before .before .before .before .args in let l = legal (state (a .«record») (a .hkroot .now) (a .mack .now) (a .dsm .now)) (a .budget) (c .before .before .before .before .before .refuses .ensures) (c .before .before .before .before .if1 .left) in (legal-range (a .«record») (a .hkroot .now) (a .mack .now) (a .dsm .now) (a .budget) l, legal-room (a .«record») (a .hkroot .now) (a .mack .now) (a .dsm .now) (a .budget) l, omega (arith, c .before .before .before .smaller .ensures, l .budget-15), omega (arith, c .before .before .before .smaller .ensures))
+
+same-length-4 : tie.Need-same-length-4
+same-length-4 c = search needs
+
+same-length-5 : tie.Need-same-length-5
+same-length-5 c = search needs
+
+same-length-6 : tie.Need-same-length-6
+same-length-6 c = search needs
+
+returns-2 : tie.Need-returns-2
+returns-2 c = let a = c .before .before .before .before .before .before .before .before .before .before .before .before .before .before .before .before .before .before .before .before .before .args in let p = c .before .before .before .before .before .before .before .run in replay-done (state (a .«record») (a .hkroot .now) (a .mack .now) (a .dsm .now)) (a .pages .now) (a .budget) (c .before .before .before .before .before .before .before .before .before .before .before .before .before .refuses .ensures) {x = ran (p .result) (p .last .1 .0) (p .last .1 .1 .0) (p .last .1 .1 .1 .0)} (c .before .before .before .before .before .before .before .before .before .before .before .before .if1 .left) (c .before .before .before .before .before .before .before .before .before .before .before .smaller .ensures) (p .ensures)
+
+pub replay-spec : {M : Type 1} → statement M
+replay-spec =
+    tie.close
+    (tie.spec
+    refuses-requires
+    same-length
+    same-length-2
+    same-length-3
+    returns
+    smaller-requires
+    run-requires
+    same-length-4
+    same-length-5
+    same-length-6
+    returns-2)
