@@ -15,8 +15,11 @@ use Rattle.layouts.proofs.Answers.{none-fails}
 use Rattle.layouts.specs.Sizes.{krootBlocks}
 use Rattle.subframes.specs.Subframe.{isUsed, small, State as Subframes, changed, used, offered, answerAt, feed as feedPage, view as viewPage}
 use Rattle.dsms.specs.Dsm.{State as Dsms, begun, stored, counted as counted-blocks, allHeld, whole, finished, taken, feed as feedBlock}
-use Rattle.page_replay.specs.Replay.{Totals, State, new, Run, isCounted, one, passedOn, skipped, counted, fedPage, fed, pageStep, andThen, onward, replayed, pagesOf, wholePages, consumed, most, areFew, newChecks, replayChecks, Outcome, fedHkroot, osnma, later}
-use Rattle.page_replay.specs.Pieces.{OneOfEach, AddsUp, TotalsAddUp, PagesAddUp, followedBy, SplitAnywhere, Call, called, calledAll, consumedBytes, BudgetsLegal, plus, Ready, InPieces, NewIsReady, UsedIsTaken, Example}
+use Rattle.page_replay.specs.Replay.{Totals, State, new, Run, isCounted, one, passedOn, skipped, counted, fedPage, fed, pageStep, andThen, onward}
+use Rattle.page_replay.specs.Replay.{replayed, pagesOf, wholePages, consumed, most, areFew, newChecks, replayChecks, Outcome, fedHkroot, osnma}
+use Rattle.page_replay.specs.Replay.{later}
+use Rattle.page_replay.specs.Pieces.{OneOfEach, AddsUp, TotalsAddUp, PagesAddUp, followedBy, SplitAnywhere, Call, called, calledAll, consumedBytes}
+use Rattle.page_replay.specs.Pieces.{BudgetsLegal, plus, Ready, InPieces, NewIsReady, UsedIsTaken, Example}
 use Rattle.page_replay.proofs.PageFold.{at-most-one, Sound, sound-step}
 use Rattle.page_replay.proofs.PageSteps.{new-admitted}
 use Rattle.page_replay.proofs.PageRefusals.{pages-many, all-few, few-each, call-admitted, legal, replay-done}
@@ -33,11 +36,18 @@ one-or-not false = refl
 
 fed-adds : (s : State) (page : List ℕ) → AddsUp (s .totals) (fed s (fedPage s page)) 1
 unfolding fed counted
-fed-adds s page = record { all-pages = refl; each-page = omega (arith, one-or-not (isUsed (s .subframes) (fedPage s page))); all-subframes = refl; all-dsms = refl }
+fed-adds s page =
+    record { all-pages = refl; each-page = omega (arith, one-or-not (isUsed (s .subframes) (fedPage s page))); all-subframes = refl; all-dsms = refl }
 
 skipped-adds : (s : State) → AddsUp (s .totals) (skipped s) 1
 unfolding skipped
-skipped-adds s = record { all-pages = refl; each-page = omega arith; all-subframes = sym (add-zero (s .totals .subframes)); all-dsms = sym (add-zero (s .totals .dsms)) }
+skipped-adds s =
+    record {
+      all-pages = refl;
+      each-page = omega arith;
+      all-subframes = sym (add-zero (s .totals .subframes));
+      all-dsms = sym (add-zero (s .totals .dsms));
+    }
 
 step-adds : (s : State) (page : List ℕ) → AddsUp (s .totals) (pageStep s page) 1
 unfolding pageStep
@@ -68,7 +78,13 @@ pub totals-add-up : TotalsAddUp
 unfolding replayed
 totals-add-up s ps =
     let none : AddsUp (s .totals) (record { state = s; subframes = []; dsms = [] }) 0 =
-    record { all-pages = sym (add-zero (s .totals .pages)); each-page = omega arith; all-subframes = sym (add-zero (s .totals .subframes)); all-dsms = sym (add-zero (s .totals .dsms)) } in
+    record {
+      all-pages = sym (add-zero (s .totals .pages));
+      each-page = omega arith;
+      all-subframes = sym (add-zero (s .totals .subframes));
+      all-dsms = sym (add-zero (s .totals .dsms));
+    }
+    in
     rw (zero-add (length ps)) at (onward-adds (s .totals) ps (record { state = s; subframes = []; dsms = [] }) 0 none)
 
 pub pages-add-up : PagesAddUp
@@ -145,7 +161,8 @@ good-onward (p ∷ ps) r n g =
 
 few-totals : (s : State) (n : ℕ) → Sound s n → n ≤ most → true ≡ areFew (s .totals)
 few-totals s n f l =
-    all-few (s .totals) (omega (arith, f .pages-few)) (omega (arith, f .skipped-few)) (omega (arith, f .used-few)) (omega (arith, f .unused-few)) (omega (arith, f .subframes-few))
+    all-few (s .totals) (omega (arith, f .pages-few)) (omega (arith, f .skipped-few)) (omega (arith, f .used-few)) (omega (arith, f .unused-few))
+    (omega (arith, f .subframes-few))
     (omega (arith, f .dsms-few))
 
 admitted-call : (s : State) (n budget : ℕ) → Good s n → n ≤ most → budget ≤ 15 → 0 ≡ refusal (replayChecks s budget)
@@ -163,9 +180,12 @@ called-is : (r : Run) (c : Call) (n : ℕ) → Good (r .state) n → n ≤ most 
 unfolding replayed
 called-is r c n g l b =
     let e = replay-done (r .state) (c .bytes) (c .budget) (admitted-call (r .state) n (c .budget) g l b) refl refl refl in
-    ap (λ (o : Outcome). followedBy r (record { state = o .state; subframes = o .subframes; dsms = o .dsms })) (sym e) ∙ sym (onward-start (consumed (c .bytes) (c .budget)) r)
+    ap (λ (o : Outcome). followedBy r (record { state = o .state; subframes = o .subframes; dsms = o .dsms })) (sym e)
+    ∙ sym (onward-start (consumed (c .bytes) (c .budget)) r)
 
-calls-are : (cs : List Call) (r : Run) (n : ℕ) → Good (r .state) n → n + length (allConsumed cs) ≤ most → BudgetsLegal cs → calledAll r cs ≡ onward r (allConsumed cs)
+calls-are :
+    (cs : List Call) (r : Run) (n : ℕ) → Good (r .state) n → n + length (allConsumed cs) ≤ most → BudgetsLegal cs
+    → calledAll r cs ≡ onward r (allConsumed cs)
 calls-are [] r n g l b = refl
 calls-are (c ∷ cs) r n g l b =
     let ps : List (List ℕ) = consumed (c .bytes) (c .budget) in
@@ -200,11 +220,17 @@ file-pages (c ∷ cs) tail l =
     let many : length (pagesOf k (c .bytes)) ≡ k = pages-many k (c .bytes) in
     let fits : 30 * k ≤ length (c .bytes) = omega arith in
     let long : length (take (30 * k) (c .bytes)) ≡ 30 * k = length-take-le (30 * k) (c .bytes) fits in
-    let pages : wholePages (take (30 * k) (c .bytes) ++ rest) ≡ k + wholePages rest = ap (λ (j : ℕ). j / 30) (length-append (take (30 * k) (c .bytes)) rest) ∙ rw long (omega arith) in
+    let pages : wholePages (take (30 * k) (c .bytes) ++ rest)
+    ≡ k + wholePages rest = ap (λ (j : ℕ). j / 30) (length-append (take (30 * k) (c .bytes)) rest) ∙ rw long (omega arith) in
     let whole : pagesOf (wholePages (take (30 * k) (c .bytes) ++ rest)) (take (30 * k) (c .bytes) ++ rest) ≡ pagesOf k (c .bytes) ++ allConsumed cs =
     ap (λ (j : ℕ). pagesOf j (take (30 * k) (c .bytes) ++ rest)) pages ∙ pages-join k (wholePages rest) (take (30 * k) (c .bytes)) rest long
-    ∙ ap (λ (l : List (List ℕ)). l ++ pagesOf (wholePages rest) rest) (sym (pages-taken k (c .bytes) fits)) ∙ ap (λ (l : List (List ℕ)). pagesOf k (c .bytes) ++ l) (sym (file-pages cs tail l)) in
-    sym (ap (λ (x : List ℕ). pagesOf (wholePages x) x) (append-assoc (take (30 * length (pagesOf k (c .bytes))) (c .bytes)) (consumedBytes cs) tail ∙ ap (λ (j : ℕ). take (30 * j) (c .bytes) ++ rest) many) ∙ whole)
+    ∙ ap (λ (l : List (List ℕ)). l ++ pagesOf (wholePages rest) rest) (sym (pages-taken k (c .bytes) fits))
+    ∙ ap (λ (l : List (List ℕ)). pagesOf k (c .bytes) ++ l) (sym (file-pages cs tail l)) in
+    sym
+    (ap (λ (x : List ℕ). pagesOf (wholePages x) x)
+    (append-assoc (take (30 * length (pagesOf k (c .bytes))) (c .bytes)) (consumedBytes cs) tail
+    ∙ ap (λ (j : ℕ). take (30 * j) (c .bytes) ++ rest) many)
+    ∙ whole)
 
 -- A legal record with room.
 good-first : (s : State) (n : ℕ) → Ready s n → (n ≤ most) × Good s (most - n)
@@ -268,7 +294,9 @@ new-is-ready satellite week time n hkroot mack memory e lh lm ld l =
             dsms = record { d208 = ld; id-low = omega arith };
           }) (omega arith) (omega arith));
       room =
-          sym (all-few (plus (new satellite week time hkroot mack memory .totals) n) (omega arith) (omega arith) (omega arith) (omega arith) (omega arith) (omega arith));
+          sym
+          (all-few (plus (new satellite week time hkroot mack memory .totals) n) (omega arith) (omega arith) (omega arith) (omega arith)
+          (omega arith) (omega arith));
     }
 
 pub used-is-taken : UsedIsTaken
@@ -276,5 +304,6 @@ unfolding feedPage offered isUsed
 used-is-taken s p e = rw e
 
 pub example : Example
-unfolding replayed andThen pageStep isCounted skipped fed counted isUsed later osnma fedHkroot bit field refusal small changed used offered answerAt feedPage viewPage copied begun stored counted-blocks allHeld finished taken feedBlock krootBlocks
+unfolding replayed andThen pageStep isCounted skipped fed counted isUsed later osnma fedHkroot bit field refusal small changed used offered answerAt
+    feedPage viewPage copied begun stored counted-blocks allHeld finished taken feedBlock krootBlocks
 example = (refl, refl, refl)

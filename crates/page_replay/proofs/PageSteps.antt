@@ -20,7 +20,8 @@ use Rattle.layouts.specs.declared.dsm_header.DsmType.the-variants.{Kroot, Pkr}
 use Rattle.layouts.proofs.Answers.{pass, done, answer-of}
 use Rattle.layouts.proofs.Readers.{first-of}
 use Rattle.layouts.proofs.Fields.{field-lt}
-use Rattle.page_replay.specs.Replay.{Time, later, State, new, Begun, begun, Dsm, Run, isCounted, osnma, newChecks, subframesIn, dsmsIn, one, hkrootOf, fedHkroot, passedOn, skipped, counted, fedPage, fed, pageStep, andThen}
+use Rattle.page_replay.specs.Replay.{Time, later, State, new, Begun, begun, Dsm, Run, isCounted, osnma, newChecks, subframesIn, dsmsIn, one}
+use Rattle.page_replay.specs.Replay.{hkrootOf, fedHkroot, passedOn, skipped, counted, fedPage, fed, pageStep, andThen}
 use Rattle.subframes.specs.Subframe.{isUsed, Page, Fed as SubframesFed, feed as feedPage}
 use Rattle.dsms.specs.Dsm.{Fed as DsmsFed}
 use Rattle.subframes.specs.SubframePromises.{NewSubframe, HkrootMessageRead, meaning-subframe, state as subframeState}
@@ -50,7 +51,9 @@ module _ (m : List ℕ) (s w : ℕ) {x : Number} (e : meaning-number x ≡ readB
 
   pub bits-refused : {n : ℕ} → x ≡ Refused n → 1 ≤ w → w ≤ 8 → s + w ≤ 8 * length m → 0 ≡ field m s w
   bits-refused {n} h l u r =
-      let some : gives (field m s w ∷ []) ≡ readBits m s w = pass 7 _ _ _ (ne-eqb w 0 (λ z. omega arith)) (pass 7 _ _ _ (le-ltb 64 w (omega arith)) (pass 5 _ _ _ (le-ltb (8 * length m) (s + w) r) (done _ refl))) in
+      let some : gives (field m s w ∷ [])
+      ≡ readBits m s w = pass 7 _ _ _ (ne-eqb w 0 (λ z. omega arith))
+      (pass 7 _ _ _ (le-ltb 64 w (omega arith)) (pass 5 _ _ _ (le-ltb (8 * length m) (s + w) r) (done _ refl))) in
       let f : refused n ≡ readBits m s w = rw h at e in
       let z : _≡_ {A = ℕ} 0 1 = cc in absurd (omega arith)
 
@@ -78,12 +81,16 @@ no-last false q r s f = refl
 module _ (page : List ℕ) {a : ℕ} (e : a ≡ field page 0 2) where
   pub even-other : (a ≡ 0 → ⊥) → false ≡ isCounted page
   unfolding isCounted
-  even-other ne = no-first (eqb (bit page 0) 0) (eqb (bit page 1) 0) _ _ (λ p q. ne (omega (arith, field-two page 0, eqb-true (bit page 0) 0 p, eqb-true (bit page 1) 0 q)))
+  even-other ne =
+      no-first (eqb (bit page 0) 0) (eqb (bit page 1) 0) _ _
+      (λ p q. ne (omega (arith, field-two page 0, eqb-true (bit page 0) 0 p, eqb-true (bit page 1) 0 q)))
 
   module _ {b : ℕ} (f : b ≡ field page 120 2) where
     pub odd-other : (b ≡ 2 → ⊥) → false ≡ isCounted page
     unfolding isCounted
-    odd-other ne = no-last (eqb (bit page 0) 0) (eqb (bit page 1) 0) (eqb (bit page 120) 1) (eqb (bit page 121) 0) (λ p q. ne (omega (arith, field-two page 120, eqb-true (bit page 120) 1 p, eqb-true (bit page 121) 0 q)))
+    odd-other ne =
+        no-last (eqb (bit page 0) 0) (eqb (bit page 1) 0) (eqb (bit page 120) 1) (eqb (bit page 121) 0)
+        (λ p q. ne (omega (arith, field-two page 120, eqb-true (bit page 120) 1 p, eqb-true (bit page 121) 0 q)))
 
     pub page-counts : a ≡ 0 → b ≡ 2 → true ≡ isCounted page
     unfolding isCounted
@@ -95,7 +102,8 @@ module _ (page : List ℕ) {a : ℕ} (e : a ≡ field page 0 2) where
         rw (b0, b1, b120, b121)
 
 -- The OSNMA field.
-pub osnma-is : (page : List ℕ) {a b c d e : ℕ} → a ≡ field page 138 8 → b ≡ field page 146 8 → c ≡ field page 154 8 → d ≡ field page 162 8 → e ≡ field page 170 8
+pub osnma-is :
+    (page : List ℕ) {a b c d e : ℕ} → a ≡ field page 138 8 → b ≡ field page 146 8 → c ≡ field page 154 8 → d ≡ field page 162 8 → e ≡ field page 170 8
     → a ∷ b ∷ c ∷ d ∷ e ∷ [] ≡ osnma page
 unfolding osnma
 osnma-is page ea eb ec ed ee = rw (ea, eb, ec, ed, ee)
@@ -152,11 +160,15 @@ pub dsm-is : {x : DsmAnswer} (i : ℕ) (k : DsmType) (n : ℕ) → x ≡ Complet
 dsm-is i Kroot n e = rw e
 dsm-is i Pkr n e = rw e
 
-pub first-subframe : (x y : SubframeDone) {w t : ℕ} → x ≡ Subframe w t → length (meaning-subframes x ++ meaning-subframes y) ≤ 1 → meaning-subframes (Subframe w t) ≡ meaning-subframes x ++ meaning-subframes y
+pub first-subframe :
+    (x y : SubframeDone) {w t : ℕ} → x ≡ Subframe w t → length (meaning-subframes x ++ meaning-subframes y) ≤ 1
+    → meaning-subframes (Subframe w t) ≡ meaning-subframes x ++ meaning-subframes y
 first-subframe x None e l = rw e
 first-subframe x (Subframe v u) e l = let l : 2 ≤ 1 = rw e at l in absurd (omega arith)
 
-pub first-dsm : (x y : DsmDone) {i n : ℕ} → x ≡ DsmIs i n → length (meaning-dsms x ++ meaning-dsms y) ≤ 1 → meaning-dsms (DsmIs i n) ≡ meaning-dsms x ++ meaning-dsms y
+pub first-dsm :
+    (x y : DsmDone) {i n : ℕ} → x ≡ DsmIs i n → length (meaning-dsms x ++ meaning-dsms y) ≤ 1
+    → meaning-dsms (DsmIs i n) ≡ meaning-dsms x ++ meaning-dsms y
 first-dsm x NoDsm e l = rw e
 first-dsm x (DsmIs j m) e l = let l : 2 ≤ 1 = rw e at l in absurd (omega arith)
 
@@ -174,15 +186,33 @@ dsms-few (DsmIs i n) = omega arith
 
 -- A new record.
 pub fresh-is : (s w t : ℕ) (a : CollectSubframe) (b : CollectDsm) → NewSubframe a → NewDsm b
-    → state (record { satellite = s; week = w; time = t; subframes = a; dsms = b; pages = 0; skipped = 0; used = 0; unused = 0; «subframes_done» = 0; «dsms_done» = 0 }) [] [] [] ≡ new s w t [] [] []
+    → state
+    (record {
+      satellite = s;
+      week = w;
+      time = t;
+      subframes = a;
+      dsms = b;
+      pages = 0;
+      skipped = 0;
+      used = 0;
+      unused = 0;
+      «subframes_done» = 0;
+      «dsms_done» = 0;
+    })
+    [] [] []
+    ≡ new s w t [] [] []
 fresh-is s w t a b e f = cc
 
 module _ (s w t : ℕ) {q : ℕ} (e : q ≡ refusal (newChecks s w t)) {r : PageReplay} where
-  pub begun-refused : (q ≡ 0 → ⊥) → state r [] [] [] ≡ new 0 0 0 [] [] [] → _≡_ {A = Begun} (record { state = state r [] [] []; answer = refused q }) (begun s w t [] [] [])
+  pub begun-refused :
+      (q ≡ 0 → ⊥) → state r [] [] [] ≡ new 0 0 0 [] [] []
+      → _≡_ {A = Begun} (record { state = state r [] [] []; answer = refused q }) (begun s w t [] [] [])
   unfolding begun
   begun-refused ne f = rw (← e, ne-eqb q 0 ne, f)
 
-  pub begun-ready : q ≡ 0 → state r [] [] [] ≡ new s w t [] [] [] → _≡_ {A = Begun} (record { state = state r [] [] []; answer = gives [] }) (begun s w t [] [] [])
+  pub begun-ready :
+      q ≡ 0 → state r [] [] [] ≡ new s w t [] [] [] → _≡_ {A = Begun} (record { state = state r [] [] []; answer = gives [] }) (begun s w t [] [] [])
   unfolding begun
   begun-ready z f = rw (← e, z, f)
 
@@ -202,10 +232,14 @@ with-memory s w t r h m d e = ap lent e
 
 -- A complete HKROOT message feeds the DSM collector.
 module _ {x : SubframeAnswer} (c : CollectSubframe) (h k : List ℕ) (n : ℕ) (d : CollectDsm) (m : List ℕ) where
-  pub passed-refused : {q : ℕ} → x ≡ SubframeRefused q → _≡_ {A = DsmsFed} (record { state = dsmState d m; answer = nothing }) (passedOn (meaning-subframe x) (subframeState c h k) n (dsmState d m))
+  pub passed-refused :
+      {q : ℕ} → x ≡ SubframeRefused q
+      → _≡_ {A = DsmsFed} (record { state = dsmState d m; answer = nothing }) (passedOn (meaning-subframe x) (subframeState c h k) n (dsmState d m))
   passed-refused e = rw e
 
-  pub passed-nothing : x ≡ NoSubframe → _≡_ {A = DsmsFed} (record { state = dsmState d m; answer = nothing }) (passedOn (meaning-subframe x) (subframeState c h k) n (dsmState d m))
+  pub passed-nothing :
+      x ≡ NoSubframe
+      → _≡_ {A = DsmsFed} (record { state = dsmState d m; answer = nothing }) (passedOn (meaning-subframe x) (subframeState c h k) n (dsmState d m))
   passed-nothing e = rw e
 
   pub passed-hkroot : {w t : ℕ} {f : DsmsFed} → x ≡ SubframeIs w t → f ≡ fedHkroot (dsmState d m) (hkrootOf (subframeState c h k) n)
@@ -292,7 +326,9 @@ fed-is s page {b} {u} {f} {d} eb eu ef ed er =
 
 -- One page more.
 module _ (r : Run) (page : List ℕ) {x : Run} (e : x ≡ pageStep (r .state) page) where
-  pub and-then-is : {xs : List Time} {ys : List Dsm} → xs ≡ r .subframes ++ x .subframes → ys ≡ r .dsms ++ x .dsms → _≡_ {A = Run} (record { state = x .state; subframes = xs; dsms = ys }) (andThen r page)
+  pub and-then-is :
+      {xs : List Time} {ys : List Dsm} → xs ≡ r .subframes ++ x .subframes → ys ≡ r .dsms ++ x .dsms
+      → _≡_ {A = Run} (record { state = x .state; subframes = xs; dsms = ys }) (andThen r page)
   unfolding andThen
   and-then-is ex ey = rw (ex, ey, e)
 

@@ -87,10 +87,19 @@ back-outcome o =
 pub replay-pages : (c : PageReplay) (h m d pages : List ℕ) (budget : ℕ) (r s : Replayed) (x y z x′ y′ z′ : List ℕ)
     → ReplayPages c h m d pages budget r x y z → ReplayPages c h m d pages budget s x′ y′ z′ → (r ≡ s) × (x ≡ x′) × (y ≡ y′) × (z ≡ z′)
 replay-pages c h m d pages budget r s x y z x′ y′ z′ p q =
-    let e : outcome r x y z ≡ outcome s x′ y′ z′ = p ∙ sym q in
-    (whole r ∙ ap back-outcome e ∙ sym (whole s), ap (λ (o : Outcome). o .state .subframes .hkroot) e, ap (λ (o : Outcome). o .state .subframes .mack) e, ap (λ (o : Outcome). o .state .dsms .memory) e)
+    let e : outcome r x y z ≡ outcome s x′ y′ z′ = p ∙ sym q in (
+      whole r ∙ ap back-outcome e ∙ sym (whole s),
+      ap (λ (o : Outcome). o .state .subframes .hkroot) e,
+      ap (λ (o : Outcome). o .state .subframes .mack) e,
+      ap (λ (o : Outcome). o .state .dsms .memory) e,
+    )
   where
     whole : (f : Replayed)
         → _≡_ {A = Replayed} f
-        (record { replay = f .replay; answer = back-answer (meaning-replay (f .answer)); subframe = back-subframes (meaning-subframes (f .subframe)); dsm = back-dsms (meaning-dsms (f .dsm)) })
+        (record {
+          replay = f .replay;
+          answer = back-answer (meaning-replay (f .answer));
+          subframe = back-subframes (meaning-subframes (f .subframe));
+          dsm = back-dsms (meaning-dsms (f .dsm));
+        })
     whole f = rw (undo-answer (f .answer), undo-subframes (f .subframe), undo-dsms (f .dsm))

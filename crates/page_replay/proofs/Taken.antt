@@ -32,19 +32,24 @@ module _ (s : State) where
   unfolding view
   refused-with {n} f = go (eqb (refusal (viewChecks s 1)) 0) (eqb (getD (s .counts) (1 - 1) 0) 15) f ∙ asks
     where
-      go : (a b : Bool) → refused n ≡ cond a (cond b (gives (15 * (1 - 1) ∷ 15 ∷ [])) nothing) (refused (refusal (viewChecks s 1))) → n ≡ refusal (viewChecks s 1)
+      go :
+          (a b : Bool) → refused n ≡ cond a (cond b (gives (15 * (1 - 1) ∷ 15 ∷ [])) nothing) (refused (refusal (viewChecks s 1)))
+          → n ≡ refusal (viewChecks s 1)
       go true true f = let z : _≡_ {A = ℕ} 0 1 = cc in absurd (omega arith)
       go true false f = let z : _≡_ {A = ℕ} 0 1 = cc in absurd (omega arith)
       go false b f = cc
 
   nothing-there : nothing ≡ view s 15 1 → 0 ≡ refusal (recordChecks s)
   unfolding view
-  nothing-there f = admits (eqb (refusal (viewChecks s 1)) 0) (eqb (getD (s .counts) (1 - 1) 0) 15) nothing refl (λ n g. let z : _≡_ {A = ℕ} 0 1 = cc in absurd (omega arith)) f
+  nothing-there f =
+      admits (eqb (refusal (viewChecks s 1)) 0) (eqb (getD (s .counts) (1 - 1) 0) 15) nothing refl
+      (λ n g. let z : _≡_ {A = ℕ} 0 1 = cc in absurd (omega arith)) f
 
   shown-there : {first many : ℕ} → gives (first ∷ many ∷ []) ≡ view s 15 1 → 0 ≡ refusal (recordChecks s)
   unfolding view
   shown-there {first} {many} f =
-      admits (eqb (refusal (viewChecks s 1)) 0) (eqb (getD (s .counts) (1 - 1) 0) 15) (gives (first ∷ many ∷ [])) refl (λ n g. let z : _≡_ {A = ℕ} 0 1 = cc in absurd (omega arith)) f
+      admits (eqb (refusal (viewChecks s 1)) 0) (eqb (getD (s .counts) (1 - 1) 0) 15) (gives (first ∷ many ∷ [])) refl
+      (λ n g. let z : _≡_ {A = ℕ} 0 1 = cc in absurd (omega arith)) f
 
 module _ (c : CollectSubframe) (h m : List ℕ) (x : SubframeShown) (e : ViewSubframeShown c h m Hkroot 1 x) where
   pub asked-refused : {n : ℕ} → x ≡ NotShown n → n ≡ refusal (recordChecks (state c h m))
@@ -58,10 +63,14 @@ module _ (c : CollectSubframe) (h m : List ℕ) (x : SubframeShown) (e : ViewSub
 
 -- a page's word against the count of its satellite
 module _ (s : State) (p : Page) (i : p .satellite - 1 < 36) where
-  none-yet : _≡_ {A = State} (record { week = p .week; subframe = subframeOf (p .time); counts = replicate 36 0; hkroot = s .hkroot; mack = s .mack }) (changed s (p .week) (subframeOf (p .time)))
+  none-yet :
+      _≡_ {A = State} (record { week = p .week; subframe = subframeOf (p .time); counts = replicate 36 0; hkroot = s .hkroot; mack = s .mack })
+      (changed s (p .week) (subframeOf (p .time)))
       → eqb (wordOf (p .time)) 0 ≡ isUsed s p
   unfolding isUsed
-  none-yet e = ap (eqb (wordOf (p .time))) (sym (getD-replicate 36 (p .satellite - 1) 0 0 i)) ∙ ap (λ (t : State). eqb (wordOf (p .time)) (getD (t .counts) (p .satellite - 1) 0)) e
+  none-yet e =
+      ap (eqb (wordOf (p .time))) (sym (getD-replicate 36 (p .satellite - 1) 0 0 i))
+      ∙ ap (λ (t : State). eqb (wordOf (p .time)) (getD (t .counts) (p .satellite - 1) 0)) e
 
   pub used-other-week : (s .week ≡ p .week → ⊥) → eqb (wordOf (p .time)) 0 ≡ isUsed s p
   used-other-week ne = none-yet (other-week-taken s (p .week) (subframeOf (p .time)) ne)

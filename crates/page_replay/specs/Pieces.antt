@@ -28,7 +28,8 @@ abbrev pub PagesAddUp : Type 0
 PagesAddUp =
     (satellite week time : ℕ) (hkroot mack memory : List ℕ) (pages : List (List ℕ))
     → replayed (new satellite week time hkroot mack memory) pages .state .totals .pages
-    ≡ replayed (new satellite week time hkroot mack memory) pages .state .totals .skipped + replayed (new satellite week time hkroot mack memory) pages .state .totals .used
+    ≡ replayed (new satellite week time hkroot mack memory) pages .state .totals .skipped + replayed (new satellite week time hkroot mack memory)
+    pages .state .totals .used
     + replayed (new satellite week time hkroot mack memory) pages .state .totals .unused
 
 -- Pieces of any sizes: pages that are split anywhere make the same state, totals and lent bytes among it, and complete the same messages in the same order.
@@ -82,7 +83,8 @@ pub record Ready (s : State) (n : ℕ) : Type 0 where
   pub not-refused : refusal (replayChecks s 0) ≡ 0
   pub room : areFew (plus (s .totals) n) ≡ true
 
--- "A replay call consumes the smaller of its page budget and the whole pages lent": calls with any budgets and any bytes lent, of which the consumed ones are the file without its tail,
+-- "A replay call consumes the smaller of its page budget and the whole pages lent": calls with any budgets and any bytes lent, of which the consumed ones
+-- are the file without its tail,
 -- end where one run over all whole pages of the file ends, and answer what it completes
 abbrev pub InPieces : Type 0
 InPieces =
@@ -92,10 +94,12 @@ InPieces =
 -- a new record is ready, with lent bytes of any contents
 abbrev pub NewIsReady : Type 0
 NewIsReady =
-    (satellite week time n : ℕ) (hkroot mack memory : List ℕ) → refusal (newChecks satellite week time) ≡ 0 → length hkroot ≡ 540 → length mack ≡ 2160 → length memory ≡ 208 → n ≤ most
+    (satellite week time n : ℕ) (hkroot mack memory : List ℕ) → refusal (newChecks satellite week time) ≡ 0 → length hkroot ≡ 540 → length mack ≡ 2160
+    → length memory ≡ 208 → n ≤ most
     → Ready (new satellite week time hkroot mack memory) n
 
--- "If the word differs from the satellite's count: nothing. Otherwise its bytes go to that place and the count rises": the totals call a page used exactly where the collector takes it
+-- "If the word differs from the satellite's count: nothing. Otherwise its bytes go to that place and the count rises": the totals call a page used exactly
+-- where the collector takes it
 abbrev pub UsedIsTaken : Type 0
 UsedIsTaken =
     (s : Subframes) (p : Page) → refusal (feedChecks s p) ≡ 0

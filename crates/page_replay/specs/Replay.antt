@@ -216,7 +216,8 @@ unfoldable pub areFew : Totals → Bool
 areFew t =
     leb (t .pages) most && leb (t .skipped) most && leb (t .used) most && leb (t .unused) most && leb (t .subframes) most && leb (t .dsms) most
 
--- 540, 2,160 and 208 bytes are lent, else 1; totals, "as is a satellite, week or time out of range in the record of a running replay", and a collector's record out of range: 12; "A budget above 15 is 7"
+-- 540, 2,160 and 208 bytes are lent, else 1; totals, "as is a satellite, week or time out of range in the record of a running replay", and a collector's
+-- record out of range: 12; "A budget above 15 is 7"
 abbrev pub replayChecks : State → ℕ → List Check
 replayChecks s budget =
     1 when not (eqb (length (s .dsms .memory)) 208) ∷

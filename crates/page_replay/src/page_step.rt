@@ -15,7 +15,8 @@ ghost use mathlib.Core.Path.{_≡_};
 ghost use mathlib.Core.List.{List};
 ghost use Prim.Native.Nat.{ℕ, _+_, _^_, _≤_};
 ghost use lib.ListN.{length};
-ghost use Rattle.page_replay.specs.Replay.{osnma as osnmaOf, hkrootOf, fedHkroot, passedOn, subframesIn, dsmsIn, one as oneOf, skipped as skippedOf, counted as countedOf, fed as fedOf, pageStep};
+ghost use Rattle.page_replay.specs.Replay.{osnma as osnmaOf, hkrootOf, fedHkroot, passedOn, subframesIn, dsmsIn, one as oneOf, skipped as skippedOf};
+ghost use Rattle.page_replay.specs.Replay.{counted as countedOf, fed as fedOf, pageStep};
 ghost use Rattle.subframes.specs.Subframe.{isUsed};
 ghost use Rattle.subframes.specs.SubframePromises.{outcome as subframeOutcome, meaning-subframe, state as subframeState};
 ghost use Rattle.dsms.specs.DsmPromises.{meaning-dsm, state as dsmState};
@@ -32,7 +33,8 @@ pub(crate) struct Stepped {
 // Whether the subframe collector takes the satellite's page of that week and time.
 fn is_used(collector: CollectSubframe, satellite: u8, week: u16, time: u32) -> bool
     requires { ⌜ (1 ≤ satellite) × (satellite ≤ 36) × (time ≤ 604799) ⌝ }
-    ensures { λ r. ⌜ ((h m bytes : List ℕ) → r ≡ isUsed (subframeState collector h m) (record { bytes = bytes; satellite = satellite; week = week; time = time })) ⌝ }
+    ensures { λ r. ⌜ ((h m bytes : List ℕ)
+        → r ≡ isUsed (subframeState collector h m) (record { bytes = bytes; satellite = satellite; week = week; time = time })) ⌝ }
 {
     let word = (time / 2 % 15) as u8;
     if collector.week != week {
@@ -61,7 +63,8 @@ fn feed_hkroot(
     dsms: CollectDsm,
     dsm: &mut [u8],
 ) -> DsmFed
-    ensures { λ r. ⌜ dsmOutcome r (now (dsm .exit)) ≡ fedHkroot (dsmState dsms (now (dsm .entry))) (hkrootOf (subframeState collector (now (hkroot .entry)) (now (mack .entry))) satellite) ⌝ }
+    ensures { λ r. ⌜ dsmOutcome r (now (dsm .exit))
+        ≡ fedHkroot (dsmState dsms (now (dsm .entry))) (hkrootOf (subframeState collector (now (hkroot .entry)) (now (mack .entry))) satellite) ⌝ }
 {
     let message = subframe::hkroot_message(collector, hkroot, mack, satellite);
     let bytes = message.bytes;
@@ -77,7 +80,9 @@ fn pass_on(
     dsms: CollectDsm,
     dsm: &mut [u8],
 ) -> DsmFed
-    ensures { λ r. ⌜ dsmOutcome r (now (dsm .exit)) ≡ passedOn (meaning-subframe (fed .answer)) (subframeState (fed .collector) (now (hkroot .entry)) (now (mack .entry))) satellite (dsmState dsms (now (dsm .entry))) ⌝ }
+    ensures { λ r. ⌜ dsmOutcome r (now (dsm .exit))
+        ≡ passedOn (meaning-subframe (fed .answer))
+        (subframeState (fed .collector) (now (hkroot .entry)) (now (mack .entry))) satellite (dsmState dsms (now (dsm .entry))) ⌝ }
 {
     let answer = fed.answer;
     match answer {
@@ -150,7 +155,8 @@ fn one(b: bool) -> u64
 // After a page that counts, used or not, by what the two collectors made of it.
 fn tally(record: PageReplay, used: bool, fed: SubframeFed, passed: DsmFed) -> Stepped
     requires { ⌜ InRange «record» × Room «record» (2 ^ 62 + 14) ⌝ }
-    ensures { λ r. ⌜ ((h m d h₀ m₀ d₀ : List ℕ) → ran r h m d ≡ countedOf (state «record» h₀ m₀ d₀) used (subframeOutcome fed h m) (dsmOutcome passed d)) ⌝ }
+    ensures { λ r. ⌜ ((h m d h₀ m₀ d₀ : List ℕ) → ran r h m d
+        ≡ countedOf (state «record» h₀ m₀ d₀) used (subframeOutcome fed h m) (dsmOutcome passed d)) ⌝ }
 {
     let answer = fed.answer;
     let dsm_answer = passed.answer;
@@ -206,7 +212,9 @@ fn feed_page(
     page: &[u8],
 ) -> Stepped
     requires { ⌜ InRange «record» × Room «record» (2 ^ 62 + 14) × (length (now page) ≡ 30) ⌝ }
-    ensures { λ r. ⌜ ran r (now (hkroot .exit)) (now (mack .exit)) (now (dsm .exit)) ≡ fedOf (state «record» (now (hkroot .entry)) (now (mack .entry)) (now (dsm .entry))) (record { bytes = osnmaOf (now (page .entry)); satellite = «record» .satellite; week = «record» .week; time = «record» .time }) ⌝ }
+    ensures { λ r. ⌜ ran r (now (hkroot .exit)) (now (mack .exit)) (now (dsm .exit))
+        ≡ fedOf (state «record» (now (hkroot .entry)) (now (mack .entry)) (now (dsm .entry)))
+        (record { bytes = osnmaOf (now (page .entry)); satellite = «record» .satellite; week = «record» .week; time = «record» .time }) ⌝ }
 {
     let satellite = record.satellite;
     let week = record.week;
@@ -229,7 +237,8 @@ pub(crate) fn page_step(
     page: &[u8],
 ) -> Stepped
     requires { ⌜ InRange «record» × Room «record» (2 ^ 62 + 14) × (length (now page) ≡ 30) ⌝ }
-    ensures { λ r. ⌜ ran r (now (hkroot .exit)) (now (mack .exit)) (now (dsm .exit)) ≡ pageStep (state «record» (now (hkroot .entry)) (now (mack .entry)) (now (dsm .entry))) (now (page .entry)) ⌝ }
+    ensures { λ r. ⌜ ran r (now (hkroot .exit)) (now (mack .exit)) (now (dsm .exit))
+        ≡ pageStep (state «record» (now (hkroot .entry)) (now (mack .entry)) (now (dsm .entry))) (now (page .entry)) ⌝ }
 {
     if !inav_page::counts(page) {
         return skip(record);

@@ -157,7 +157,8 @@ fn and_then(
 ) -> Stepped
     requires { ⌜ InRange («so_far» .replay) × Room («so_far» .replay) (2 ^ 62 + 14) × (length (now page) ≡ 30) ⌝ }
     requires { ⌜ AtMostOne (andThen (ran «so_far» (now hkroot) (now mack) (now dsm)) (now page)) ⌝ }
-    ensures { λ r. ⌜ ran r (now (hkroot .exit)) (now (mack .exit)) (now (dsm .exit)) ≡ andThen (ran «so_far» (now (hkroot .entry)) (now (mack .entry)) (now (dsm .entry))) (now (page .entry)) ⌝ }
+    ensures { λ r. ⌜ ran r (now (hkroot .exit)) (now (mack .exit)) (now (dsm .exit))
+        ≡ andThen (ran «so_far» (now (hkroot .entry)) (now (mack .entry)) (now (dsm .entry))) (now (page .entry)) ⌝ }
 {
     let before = so_far.replay;
     let subframe_before = so_far.subframe;
@@ -194,7 +195,8 @@ fn run(
     n: usize,
 ) -> Stepped
     requires { ⌜ InRange «record» × Room «record» (2 ^ 62) × (n ≤ 15) × (30 * n ≤ length (now pages)) ⌝ }
-    ensures { λ r. ⌜ ran r (now (hkroot .exit)) (now (mack .exit)) (now (dsm .exit)) ≡ replayed (state «record» (now (hkroot .entry)) (now (mack .entry)) (now (dsm .entry))) (pagesOf n (now (pages .entry))) ⌝ }
+    ensures { λ r. ⌜ ran r (now (hkroot .exit)) (now (mack .exit)) (now (dsm .exit))
+        ≡ replayed (state «record» (now (hkroot .entry)) (now (mack .entry)) (now (dsm .entry))) (pagesOf n (now (pages .entry))) ⌝ }
 {
     let mut so_far = Stepped {
         replay: record,
@@ -286,7 +288,8 @@ pub fn replay(
     pages: &[u8],
     budget: usize,
 ) -> Replayed
-    ensures { λ r. ⌜ ReplayPages «record» (now (hkroot .entry)) (now (mack .entry)) (now (dsm .entry)) (now (pages .entry)) budget r (now (hkroot .exit)) (now (mack .exit)) (now (dsm .exit)) ⌝ }
+    ensures { λ r. ⌜ ReplayPages «record» (now (hkroot .entry)) (now (mack .entry)) (now (dsm .entry)) (now (pages .entry)) budget r
+        (now (hkroot .exit)) (now (mack .exit)) (now (dsm .exit)) ⌝ }
 {
     let refusal = refuses(record, hkroot, mack, dsm, budget);
     if refusal != 0 {

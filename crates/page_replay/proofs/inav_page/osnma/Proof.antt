@@ -21,7 +21,9 @@ bits-at-requires-5 : tie.Need-bits-at-requires-5
 bits-at-requires-5 c κs = search needs
 
 returns : tie.Need-returns
-returns c = osnma-is (c .before .before .before .before .before .before .args .page .now) (c .before .before .before .before .bits-at .ensures) (c .before .before .before .bits-at2 .ensures) (c .before .before .bits-at3 .ensures) (c .before .bits-at4 .ensures) (c .bits-at5 .ensures)
+returns c =
+    osnma-is (c .before .before .before .before .before .before .args .page .now) (c .before .before .before .before .bits-at .ensures)
+    (c .before .before .before .bits-at2 .ensures) (c .before .before .bits-at3 .ensures) (c .before .bits-at4 .ensures) (c .bits-at5 .ensures)
 
 pub osnma-spec : {M : Type 1} → statement M
 osnma-spec =
