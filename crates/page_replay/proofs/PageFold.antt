@@ -17,7 +17,7 @@ use Rattle.dsms.specs.Dsm.{State as Dsms}
 use Rattle.page_replay.specs.Replay.{Time, later, State, Run, isCounted, subframesIn, dsmsIn, passedOn, skipped, counted, fedPage, fed, pageStep}
 use Rattle.page_replay.specs.Replay.{andThen, onward, replayed, pagesOf, most}
 use Rattle.page_replay.specs.ReplayPromises.{state}
-use Rattle.page_replay.specs.ReplayInner.{ran, AtMostOne, InRange, Room}
+use Rattle.page_replay.specs.inner.Steps.{ran, AtMostOne, InRange, Room}
 use Rattle.page_replay.specs.declared.replay.PageReplay.{PageReplay}
 use Rattle.page_replay.specs.declared.page_step.Stepped.{Stepped}
 use Rattle.subframes.proofs.Pages.{answer-less}

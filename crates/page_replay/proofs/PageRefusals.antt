@@ -14,7 +14,7 @@ use Rattle.page_replay.specs.Replay.{Totals, State, Run, newChecks, repl
 use Rattle.subframes.specs.Subframe.{recordChecks}
 use Rattle.subframes.proofs.SubframeSound.{Sound as Collecting, passed-sound}
 use Rattle.page_replay.specs.ReplayPromises.{state}
-use Rattle.page_replay.specs.ReplayInner.{InRange, Room}
+use Rattle.page_replay.specs.inner.Steps.{InRange, Room}
 use Rattle.page_replay.specs.declared.replay.PageReplay.{PageReplay}
 
 -- The totals.

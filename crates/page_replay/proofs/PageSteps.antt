@@ -27,7 +27,7 @@ use Rattle.dsms.specs.Dsm.{Fed as DsmsFed}
 use Rattle.subframes.specs.SubframePromises.{NewSubframe, HkrootMessageRead, meaning-subframe, state as subframeState}
 use Rattle.dsms.specs.DsmPromises.{NewDsm, meaning-dsm, state as dsmState}
 use Rattle.page_replay.specs.ReplayPromises.{state, meaning-subframes, meaning-dsms}
-use Rattle.page_replay.specs.ReplayInner.{AtMostOne}
+use Rattle.page_replay.specs.inner.Steps.{AtMostOne}
 use Rattle.subframes.specs.declared.subframe.CollectSubframe.{CollectSubframe}
 use Rattle.subframes.specs.declared.subframe.HkrootMessage.{HkrootMessage}
 use Rattle.subframes.specs.declared.subframe.SubframeAnswer.{SubframeAnswer}

@@ -1,4 +1,4 @@
 pub mod Pieces
 pub mod Replay
-pub mod ReplayInner
 pub mod ReplayPromises
+pub mod inner

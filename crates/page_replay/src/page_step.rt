@@ -21,7 +21,7 @@ ghost use Rattle.subframes.specs.Subframe.{isUsed};
 ghost use Rattle.subframes.specs.SubframePromises.{outcome as subframeOutcome, meaning-subframe, state as subframeState};
 ghost use Rattle.dsms.specs.DsmPromises.{meaning-dsm, state as dsmState};
 ghost use Rattle.page_replay.specs.ReplayPromises.{state, meaning-subframes, meaning-dsms};
-ghost use Rattle.page_replay.specs.ReplayInner.{dsmOutcome, ran, Room, InRange};
+ghost use Rattle.page_replay.specs.inner.Steps.{dsmOutcome, ran, Room, InRange};
 
 // What pages made of a replay, and what they completed.
 pub(crate) struct Stepped {

@@ -16,7 +16,7 @@ ghost use Rattle.page_replay.specs.Replay.{new as newOf, andThen, replay
 ghost use Rattle.subframes.specs.Subframe.{recordChecks};
 ghost use Rattle.subframes.specs.SubframePromises.{state as subframeState};
 ghost use Rattle.page_replay.specs.ReplayPromises.{state, meaning-subframes, meaning-dsms, BeginReplay, ReplayPages};
-ghost use Rattle.page_replay.specs.ReplayInner.{ran, Room, InRange, AtMostOne};
+ghost use Rattle.page_replay.specs.inner.Steps.{ran, Room, InRange, AtMostOne};
 
 // A running replay: satellite, week and time of the next page, the two collectors' records, and the totals so far.
 pub struct PageReplay {

@@ -1,7 +1,7 @@
 -- `replay::page_step`: skipped, or fed to the collectors.
 -- Assumes nothing.
 use Rattle.page_replay.specs.Replay.{State}
-use Rattle.page_replay.specs.ReplayInner.{ran}
+use Rattle.page_replay.specs.inner.Steps.{ran}
 use Rattle.page_replay.specs.ReplayPromises.{state}
 use Rattle.page_replay.proofs.PageSteps.{step-skipped, step-counted}
 use borrow.Author.Needs.{needs}

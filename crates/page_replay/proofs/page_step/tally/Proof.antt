@@ -2,7 +2,7 @@
 -- Assumes nothing.
 use mathlib.Core.Bool.{not}
 use Rattle.subframes.specs.SubframePromises.{outcome}
-use Rattle.page_replay.specs.ReplayInner.{dsmOutcome}
+use Rattle.page_replay.specs.inner.Steps.{dsmOutcome}
 use Rattle.page_replay.specs.ReplayPromises.{state}
 use native.Mathlib.Omega.{arith}
 use Rattle.page_replay.proofs.PageSteps.{counted-is, one-few, subframes-few, dsms-few}

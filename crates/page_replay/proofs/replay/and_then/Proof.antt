@@ -1,7 +1,7 @@
 -- `replay::and_then`: the page step, and of what it and the pages before completed the one that is there.
 -- Assumes nothing.
 use Rattle.page_replay.specs.Replay.{Run}
-use Rattle.page_replay.specs.ReplayInner.{ran}
+use Rattle.page_replay.specs.inner.Steps.{ran}
 use Rattle.page_replay.proofs.PageSteps.{and-then-is, subframe-at-most, dsm-at-most}
 use borrow.Author.Needs.{needs}
 use Rattle.page_replay.proofs.replay.and_then.Statement.{statement}

@@ -1,7 +1,7 @@
 -- `replay::replay`: the refusals, then the pages.
 -- Assumes nothing.
 use Rattle.page_replay.specs.Replay.{State}
-use Rattle.page_replay.specs.ReplayInner.{ran}
+use Rattle.page_replay.specs.inner.Steps.{ran}
 use native.Mathlib.Omega.{arith}
 use Rattle.page_replay.specs.ReplayPromises.{state}
 use Rattle.page_replay.proofs.PageRefusals.{legal, legal-range, legal-room, replay-refused, replay-done}

@@ -7,7 +7,7 @@ use native.Mathlib.Omega.{arith}
 use lib.ListN.{length}
 use mathlib.Core.List.{List}
 use Rattle.page_replay.specs.Replay.{State, replayed, pagesOf}
-use Rattle.page_replay.specs.ReplayInner.{ran}
+use Rattle.page_replay.specs.inner.Steps.{ran}
 use Rattle.page_replay.specs.ReplayPromises.{state}
 use Rattle.page_replay.proofs.PageFold.{turn-range, turn-room, turn-one, turn-again, slice-30, slice-long, sound-first}
 use Rattle.page_replay.proofs.replay.run.Statement.{statement}

@@ -1,4 +1,4 @@
--- What private functions of the page replay need and do. No promise of a public function cites this file.
+-- What private functions of the page replay need and do.
 -- Assumes nothing.
 use Prim.Native.Nat.{ℕ, _≤_}
 use mathlib.Core.List.{List}
