@@ -1,4 +1,5 @@
 pub mod Pieces
 pub mod Replay
+pub mod ReplayHistory
 pub mod ReplayPromises
 pub mod inner
