@@ -5,7 +5,7 @@ use mathlib.Core.List.{List, [], _∷_}
 use Prim.Native.Nat.{ℕ}
 use Rattle.layouts.specs.Answer.{Answer, refused, nothing, gives, Copied}
 use Rattle.subframes.specs.Subframe.{State, Page, WordStep, Fed}
-use Rattle.subframes.specs.SubframePromises.{outcome, meaning-subframe, meaning-word, meaning-shown, NewSubframe, TakeWord, FeedSubframe, ViewSubframeShown, ViewSubframe, HkrootMessageRead}
+use Rattle.subframes.specs.SubframePromises.{outcome, meaning-subframe, meaning-word, meaning-shown, NewSubframe, TakeWord, IsUsed, FeedSubframe, ViewSubframeShown, ViewSubframe, HkrootMessageRead}
 use Rattle.subframes.specs.declared.subframe.CollectSubframe.{CollectSubframe}
 use Rattle.subframes.specs.declared.subframe.SubframeAnswer.{SubframeAnswer}
 use Rattle.subframes.specs.declared.subframe.SubframeAnswer.the-variants.{Refused, Nothing, Complete}
@@ -56,6 +56,9 @@ take-word n w r s p q = whole r ∙ ap back-taken (p ∙ sym q) ∙ sym (whole s
   where
     whole : (f : WordTaken) → _≡_ {A = WordTaken} f (record { next = f .next; answer = back-word (meaning-word (f .answer)) })
     whole f = rw (undo-word (f .answer))
+
+pub is-used : (c : CollectSubframe) (satellite week time : ℕ) (r s : WordAnswer) → IsUsed c satellite week time r → IsUsed c satellite week time s → r ≡ s
+is-used c satellite week time r s p q = sym (undo-word r) ∙ ap back-word (p ∙ sym q) ∙ undo-word s
 
 abbrev back-fed : Fed → SubframeFed
 back-fed f = record { collector = back-state (f .state); answer = back-subframe (f .answer) }

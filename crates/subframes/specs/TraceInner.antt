@@ -1,18 +1,14 @@
 -- What private functions of `trace` need and do. No promise of a public function cites this file.
 -- Assumes nothing.
 use Prim.Native.Nat.{ℕ}
-use mathlib.Core.List.{List, [], _∷_}
+use mathlib.Core.List.{List}
 use mathlib.Core.Bool.{Bool, true, false, cond}
-use lib.Dec.{ltb, eqb}
-use Rattle.layouts.specs.Answer.{Answer, refused, nothing, Check, _when_}
+use lib.Dec.{eqb}
+use Rattle.layouts.specs.Answer.{Answer, refused, nothing}
 use Rattle.subframes.specs.PageInner.{stateOf}
 use Rattle.subframes.specs.Trace.{FedMany}
 use Rattle.subframes.specs.declared.page.PageTaken.{PageTaken}
 use Rattle.subframes.specs.declared.page.PageTaken.the-variants.{Unused, Used, Completes}
-
--- what is refused of an entry alone
-abbrev pub entryChecks : ℕ → ℕ → ℕ → List Check
-entryChecks satellite week time = 2 when ltb satellite 1 ∷ 2 when ltb 36 satellite ∷ 3 when ltb 4095 week ∷ 4 when ltb 604799 time ∷ []
 
 -- whether an admitted page was its subframe's last
 abbrev pub completesOf : PageTaken → Bool
