@@ -15,39 +15,39 @@ use Rattle.layouts.specs.DsmHeader.{dsmType}
 use Rattle.layouts.specs.DsmKroot.{krootLayout}
 use Rattle.layouts.specs.DsmPkr.{pkrLayout}
 use Rattle.layouts.proofs.Fields.{field-in-byte}
-use Rattle.dsms.specs.Dsm.{blockOf, put, counted}
-use Rattle.dsms.specs.DsmRecovery.{Call, fed, firstCopy, counts, allFed, isWhole}
+use Rattle.dsms.specs.Dsm.{put, krootCount, pkrCount, counted}
+use Rattle.dsms.specs.DsmRecovery.{Call, idIn, blockIn, fed, firstCopy, counts, allFed, isWhole, runId}
 use Rattle.runs.proofs.Basics.{and-true}
 
 -- a run with one call more
-pub fed-more : (n : ℕ) (r : List Call) (c : Call) → fed n (r ++ (c ∷ [])) ≡ cond (fed n r) true (eqb (blockOf (c .header)) n)
+pub fed-more : (n : ℕ) (r : List Call) (c : Call) → fed n (r ++ (c ∷ [])) ≡ cond (fed n r) true (eqb (blockIn c) n)
 unfolding fed
-fed-more n [] c = go (eqb (blockOf (c .header)) n)
+fed-more n [] c = go (eqb (blockIn c) n)
   where
     go : (b : Bool) → cond b true false ≡ b
     go true = refl
     go false = refl
-fed-more n (d ∷ r) c = go (eqb (blockOf (d .header)) n) (fed-more n r c)
+fed-more n (d ∷ r) c = go (eqb (blockIn d) n) (fed-more n r c)
   where
-    go : (b : Bool) → fed n (r ++ (c ∷ [])) ≡ cond (fed n r) true (eqb (blockOf (c .header)) n)
-        → cond b true (fed n (r ++ (c ∷ []))) ≡ cond (cond b true (fed n r)) true (eqb (blockOf (c .header)) n)
+    go : (b : Bool) → fed n (r ++ (c ∷ [])) ≡ cond (fed n r) true (eqb (blockIn c) n)
+        → cond b true (fed n (r ++ (c ∷ []))) ≡ cond (cond b true (fed n r)) true (eqb (blockIn c) n)
     go true h = refl
     go false h = h
 
 pub copy-kept : (n : ℕ) (r : List Call) (c : Call) → fed n r ≡ true → firstCopy n (r ++ (c ∷ [])) ≡ firstCopy n r
 unfolding fed firstCopy
 copy-kept n [] c h = let z : _≡_ {A = ℕ} 0 1 = cc in absurd (omega arith)
-copy-kept n (d ∷ r) c h = go (eqb (blockOf (d .header)) n) (copy-kept n r c) h
+copy-kept n (d ∷ r) c h = go (eqb (blockIn d) n) (copy-kept n r c) h
   where
     go : (b : Bool) → (fed n r ≡ true → firstCopy n (r ++ (c ∷ [])) ≡ firstCopy n r) → cond b true (fed n r) ≡ true
         → cond b (d .block) (firstCopy n (r ++ (c ∷ []))) ≡ cond b (d .block) (firstCopy n r)
     go true ih h = refl
     go false ih h = ih h
 
-pub copy-new : (n : ℕ) (r : List Call) (c : Call) → fed n r ≡ false → blockOf (c .header) ≡ n → firstCopy n (r ++ (c ∷ [])) ≡ c .block
+pub copy-new : (n : ℕ) (r : List Call) (c : Call) → fed n r ≡ false → blockIn c ≡ n → firstCopy n (r ++ (c ∷ [])) ≡ c .block
 unfolding fed firstCopy
-copy-new n [] c h e = rw (eq-eqb (blockOf (c .header)) n e)
-copy-new n (d ∷ r) c h e = go (eqb (blockOf (d .header)) n) (λ k. copy-new n r c k e) h
+copy-new n [] c h e = rw (eq-eqb (blockIn c) n e)
+copy-new n (d ∷ r) c h e = go (eqb (blockIn d) n) (λ k. copy-new n r c k e) h
   where
     go : (b : Bool) → (fed n r ≡ false → firstCopy n (r ++ (c ∷ [])) ≡ c .block) → cond b true (fed n r) ≡ false
         → cond b (d .block) (firstCopy n (r ++ (c ∷ []))) ≡ c .block
@@ -57,7 +57,7 @@ copy-new n (d ∷ r) c h e = go (eqb (blockOf (d .header)) n) (λ k. copy-new n 
 pub copy-none : (n : ℕ) (r : List Call) → fed n r ≡ false → firstCopy n r ≡ []
 unfolding fed firstCopy
 copy-none n [] h = refl
-copy-none n (d ∷ r) h = go (eqb (blockOf (d .header)) n) (copy-none n r) h
+copy-none n (d ∷ r) h = go (eqb (blockIn d) n) (copy-none n r) h
   where
     go : (b : Bool) → (fed n r ≡ false → firstCopy n r ≡ []) → cond b true (fed n r) ≡ false → cond b (d .block) (firstCopy n r) ≡ []
     go true ih h = let z : _≡_ {A = ℕ} 0 1 = cc in absurd (omega arith)
@@ -102,12 +102,14 @@ module _ (m : List ℕ) (b : ℕ) (block : List ℕ) (lm : length m ≡ 208) (lb
   put-at k h =
       ap (λ (l : List ℕ). getD l (13 * b + k) 0) (append-assoc (take (13 * b) m) block (drop (13 * b + 13) m))
       ∙ ap (λ (j : ℕ). getD (take (13 * b) m ++ (block ++ drop (13 * b + 13) m)) (j + k) 0) (sym front-long)
-      ∙ getD-append-add (take (13 * b) m) (block ++ drop (13 * b + 13) m) k 0 ∙ List·getD-append block (drop (13 * b + 13) m) 0 k (rw lb h)
+      ∙ getD-append-add (take (13 * b) m) (block ++ drop (13 * b + 13) m) k 0
+      ∙ List·getD-append block (drop (13 * b + 13) m) 0 k (rw lb h)
 
   put-after : (k : ℕ) → getD (put m b block) (13 * b + 13 + k) 0 ≡ getD m (13 * b + 13 + k) 0
   put-after k =
       let ends : 13 * b + 13 ≡ length (take (13 * b) m ++ block) = sym (length-append (take (13 * b) m) block ∙ rw (front-long, lb)) in
-      ap (λ (j : ℕ). getD (put m b block) (j + k) 0) ends ∙ getD-append-add (take (13 * b) m ++ block) (drop (13 * b + 13) m) k 0 ∙ getD-drop (13 * b + 13) m k 0
+      ap (λ (j : ℕ). getD (put m b block) (j + k) 0) ends ∙ getD-append-add (take (13 * b) m ++ block) (drop (13 * b + 13) m) k 0
+      ∙ getD-drop (13 * b + 13) m k 0
 
   pub block-put : blockAt b (put m b block) ≡ block
   block-put =
@@ -117,7 +119,9 @@ module _ (m : List ℕ) (b : ℕ) (block : List ℕ) (lm : length m ≡ 208) (lb
   pub block-other : (n : ℕ) → n < 16 → (n ≡ b → ⊥) → blockAt n (put m b block) ≡ blockAt n m
   block-other n hn ne =
       ext-getD 0 (blockAt n (put m b block)) (blockAt n m) (block-long n (put m b block) put-long hn ∙ sym (block-long n m lm hn))
-      (λ k h. let h : k < 13 = rw (block-long n (put m b block) put-long hn) at h in block-byte n (put m b block) k h ∙ go k h (leb (13 * n + k) (13 * b)) refl ∙ sym (block-byte n m k h))
+      (λ k h.
+      let h : k < 13 = rw (block-long n (put m b block) put-long hn) at h in
+      block-byte n (put m b block) k h ∙ go k h (leb (13 * n + k) (13 * b)) refl ∙ sym (block-byte n m k h))
     where
       go : (k : ℕ) → k < 13 → (x : Bool) → leb (13 * n + k) (13 * b) ≡ x → getD (put m b block) (13 * n + k) 0 ≡ getD m (13 * n + k) 0
       go k h true e = put-before (13 * n + k) (omega (arith, leb-true (13 * n + k) (13 * b) e))
@@ -129,7 +133,8 @@ module _ (m : List ℕ) (b : ℕ) (block : List ℕ) (lm : length m ≡ 208) (lb
 pub counted-byte : (t : ℕ) (m l : List ℕ) → getD m 0 0 ≡ getD l 0 0 → counted t m ≡ counted t l
 unfolding counted
 counted-byte t m l e =
-    let half : field m 0 4 ≡ field l 0 4 = field-in-byte m 0 0 4 (omega arith) ∙ ap (λ (x : ℕ). x / 2 ^ 4 % 2 ^ 4) e ∙ sym (field-in-byte l 0 0 4 (omega arith)) in
+    let half : field m 0 4 ≡ field l 0 4 =
+    field-in-byte m 0 0 4 (omega arith) ∙ ap (λ (x : ℕ). x / 2 ^ 4 % 2 ^ 4) e ∙ sym (field-in-byte l 0 0 4 (omega arith)) in
     rw half
 
 pub first-byte : (m : List ℕ) → getD m 0 0 ≡ getD (blockAt 0 m) 0 0
@@ -140,7 +145,7 @@ pub counted-none : (t : ℕ) → counted t [] ≡ 0
 unfolding counted krootBlocks pkrBlocks field bit
 counted-none t = go (eqb t 0)
   where
-    go : (b : Bool) → cond b (size krootBlocks (value (the "NB_DK" krootLayout) [])) (size pkrBlocks (value (the "NB_DP" pkrLayout) [])) ≡ 0
+    go : (b : Bool) → cond b (krootCount []) (pkrCount []) ≡ 0
     go true = refl
     go false = refl
 
@@ -163,12 +168,19 @@ pub nonzero : (n : ℕ) → not (eqb n 0) ≡ true → 0 < n
 nonzero zero e = let z : _≡_ {A = ℕ} 0 1 = cc in absurd (omega arith)
 nonzero (suc n) e = omega arith
 
+pub whole-parts : (i : ℕ) (r : List Call) → isWhole i r ≡ true → (0 < counts i r) × (allFed (counts i r) r ≡ true)
+whole-parts i r w = let p = and-true (not (eqb (counts i r) 0)) (allFed (counts i r) r) w in (nonzero (counts i r) (p .0), p .1)
+
 pub counts-stay : (i : ℕ) (r : List Call) (c : Call) → isWhole i r ≡ true → counts i (r ++ (c ∷ [])) ≡ counts i r
-counts-stay i r c w =
-    let p = and-true (not (eqb (counts i r) 0)) (allFed (counts i r) r) w in
-    ap (counted (dsmType i)) (copy-kept 0 r c (fed-first (counts i r) r (nonzero (counts i r) (p .0)) (p .1)))
+counts-stay i r c w = let p = whole-parts i r w in ap (counted (dsmType i)) (copy-kept 0 r c (fed-first (counts i r) r (p .0) (p .1)))
 
 pub whole-stays : (i : ℕ) (r : List Call) (c : Call) → isWhole i r ≡ true → isWhole i (r ++ (c ∷ [])) ≡ true
 whole-stays i r c w =
     let p = and-true (not (eqb (counts i r) 0)) (allFed (counts i r) r) w in
     rw (counts-stay i r c w, p .0, all-stays (counts i r) r c (p .1))
+
+-- the ID of a run is that of its last call
+pub id-of-last : (r : List Call) (c : Call) → runId (r ++ (c ∷ [])) ≡ idIn c
+id-of-last [] c = refl
+id-of-last (x ∷ []) c = refl
+id-of-last (x ∷ y ∷ r) c = id-of-last (y ∷ r) c

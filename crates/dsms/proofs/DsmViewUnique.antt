@@ -8,7 +8,7 @@ use Rattle.layouts.specs.Answer.{Answer, refused, nothing, gives}
 use Rattle.layouts.specs.Meaning.{meaning-type}
 use Rattle.layouts.specs.declared.dsm_header.DsmType.{DsmType}
 use Rattle.layouts.specs.declared.dsm_header.DsmType.the-variants.{Kroot, Pkr}
-use Rattle.dsms.specs.DsmView.{Kept, ViewKept, IdKept, TypeKept, DataKept, ViewAnswer, FeedInPlace}
+use Rattle.dsms.specs.DsmView.{Kept, keptOf, ViewKept, IdKept, TypeKept, DataKept, ViewAnswer, FeedInPlace}
 use Rattle.dsms.specs.declared.dsm.CollectDsm.{CollectDsm}
 use Rattle.dsms.specs.declared.dsm.DsmAnswer.{DsmAnswer}
 use Rattle.dsms.specs.declared.dsm.DsmFed.{DsmFed}
@@ -33,7 +33,7 @@ pub record Same (r s : Dsm) : Type 0 where
 
 pub view-kept : (c : CollectDsm) (memory : List ℕ) (r s : Dsm) → ViewKept c memory r → ViewKept c memory s → Same r s
 view-kept c memory r s p q =
-    let e : _≡_ {A = Kept} (record { id = r .id; kind = meaning-type (r .«dsm_type»); bytes = now (r .«data») }) (record { id = s .id; kind = meaning-type (s .«dsm_type»); bytes = now (s .«data») }) = p ∙ sym q in
+    let e : keptOf (r .id) (r .«dsm_type») (now (r .«data»)) ≡ keptOf (s .id) (s .«dsm_type») (now (s .«data»)) = p ∙ sym q in
     record {
       id = ap (λ (x : Kept). x .id) e;
       kind = sym (undo-kind (r .«dsm_type»)) ∙ ap (λ (x : Kept). back-kind (x .kind)) e ∙ undo-kind (s .«dsm_type»);

@@ -1,6 +1,5 @@
 pub mod Dsm
-pub mod DsmInner
 pub mod DsmPromises
 pub mod DsmRecovery
 pub mod DsmView
-pub mod DsmViewInner
+pub mod inner

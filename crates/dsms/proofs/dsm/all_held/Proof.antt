@@ -23,7 +23,9 @@ array-read-if1 : tie.Need-array-read-if1 Inv-loop μ-loop
 array-read-if1 c = omega arith
 
 returns : tie.Need-returns Inv-loop μ-loop
-returns c = let a = c .before .before .before .args in let h = c .before .before .loop in not-held (a .t1) (h .i) (a .n) (omega arith) (h .inv .1) (c .if1 .taken)
+returns c =
+    let a = c .before .before .before .args in
+    let h = c .before .before .loop in not-held (a .t1) (h .i) (a .n) (omega arith) (h .inv .1) (c .if1 .taken)
 
 add-i : tie.Need-add-i Inv-loop μ-loop
 add-i c = omega arith

@@ -9,10 +9,14 @@ returns : tie.Need-returns
 returns c = let a = c .before .before .args in λ m. begun-first (state (a .collector) m) (a .id) (c .if1 .taken)
 
 returns-2 : tie.Need-returns-2
-returns-2 c = let a = c .before .before .before .before .args in λ m. begun-other (state (a .collector) m) (a .id) (c .before .before .if1 .left) (c .if2 .taken)
+returns-2 c =
+    let d = c .before .before in
+    let a = d .before .before .args in λ m. begun-other (state (a .collector) m) (a .id) (d .if1 .left) (c .if2 .taken)
 
 returns-3 : tie.Need-returns-3
-returns-3 c = let a = c .before .before .before .before .args in λ m. begun-same (state (a .collector) m) (a .id) (c .before .before .if1 .left) (c .if2 .left)
+returns-3 c =
+    let d = c .before .before in
+    let a = d .before .before .args in λ m. begun-same (state (a .collector) m) (a .id) (d .if1 .left) (c .if2 .left)
 
 pub begin-spec : {M : Type 1} → statement M
 begin-spec = tie.close (tie.spec returns returns-2 returns-3)

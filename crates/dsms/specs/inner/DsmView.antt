@@ -1,4 +1,4 @@
--- What a private function of `dsm_view` tells. No promise of a public function cites this file.
+-- What a private function of `dsm_view` tells.
 -- Assumes nothing.
 use Prim.Native.Nat.{ℕ}
 use mathlib.Core.List.{List}
