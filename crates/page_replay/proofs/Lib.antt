@@ -2,5 +2,6 @@ pub mod PageFold
 pub mod PagePieces
 pub mod PageRefusals
 pub mod PageSteps
+pub mod ReplayHistory
 pub mod ReplayUnique
 pub mod Taken

@@ -12,9 +12,10 @@ use lib.Seq.{drop-drop}
 use lib.Dec.{ltb, eqb}
 use borrow.Author.Tests.{ltb-true, ltb-false, eqb-true, eqb-false}
 use Rattle.layouts.specs.Answer.{Answer, refused, nothing, gives, refusal}
-use Rattle.subframes.specs.Subframe.{isUsed, Page, wordOf, State as Subframes, Fed as SubframesFed, feedChecks, used, offered, feed as feedPage}
+use Rattle.subframes.specs.Subframe.{usedAnswer, Page, wordOf, State as Subframes, Fed as SubframesFed, feedChecks, used, offered, feed as feedPage}
+use Rattle.layouts.specs.InavPage.{isCounted}
 use Rattle.dsms.specs.Dsm.{State as Dsms}
-use Rattle.page_replay.specs.Replay.{Time, later, State, Run, isCounted, subframesIn, dsmsIn, passedOn, skipped, counted, fedPage, fed, pageStep}
+use Rattle.page_replay.specs.Replay.{Time, later, State, Run, isTaken, subframesIn, dsmsIn, passedOn, skipped, counted, fedPage, fed, pageStep}
 use Rattle.page_replay.specs.Replay.{andThen, onward, replayed, pagesOf, most}
 use Rattle.page_replay.specs.ReplayPromises.{state}
 use Rattle.page_replay.specs.inner.Steps.{ran, AtMostOne, InRange, Room}
@@ -235,7 +236,7 @@ sound-fed : (s : State) (n : ℕ) (page : List ℕ) → Sound s n → Sound (fed
 unfolding fed counted
 sound-fed s n page h =
     let a : Answer = feedPage (s .subframes) (fedPage s page) .answer in
-    let u : Bool = isUsed (s .subframes) (fedPage s page) in
+    let u : Bool = isTaken (usedAnswer (s .subframes) (fedPage s page)) in
     record {
       some = h .some;
       few = h .few;

@@ -3,14 +3,15 @@
 use Prim.Native.Nat.{ℕ, zero, suc, _/_, _^_, _≤_, _<_, min}
 use native.Mathlib.Omega.{arith}
 use mathlib.Core.Path.{_≡_, refl, sym, ap, _∙_}
-use mathlib.Core.List.{List, [], _∷_}
+use mathlib.Core.List.{List, [], _∷_, _++_}
 use mathlib.Core.Bool.{Bool, true, false, not, _&&_}
 use lib.ListN.{length, drop}
 use lib.Dec.{leb, ltb}
 use borrow.Author.Tests.{leb-true, le-leb, lt-leb, le-ltb, lt-ltb, eq-eqb, ne-eqb, eqb-true, ltb-false, not-false}
 use Rattle.layouts.specs.Answer.{refused, gives, Check, _when_, refusal}
+use Rattle.layouts.specs.Gst.{svnGstChecks}
 use Rattle.layouts.proofs.Answers.{stopped, went-on, none-fails}
-use Rattle.page_replay.specs.Replay.{Totals, State, Run, newChecks, replayChecks, skipped, areFew, most, Outcome, replay, replayed, pagesOf, consumed}
+use Rattle.page_replay.specs.Replay.{Totals, State, Run, under, replayChecks, areFew, most, Outcome, replay, replayed, pagesOf, consumed}
 use Rattle.subframes.specs.Subframe.{recordChecks}
 use Rattle.subframes.proofs.SubframeSound.{Sound as Collecting, passed-sound}
 use Rattle.page_replay.specs.ReplayPromises.{state}
@@ -77,13 +78,7 @@ module _ (t : Totals) where
 
 -- The refusals of a call: the subframe collector's bytes and record, then what is left.
 abbrev placeRows : State → ℕ → List Check
-placeRows s budget =
-    12 when ltb (s .satellite) 1 ∷
-    12 when ltb 36 (s .satellite) ∷
-    12 when ltb 4095 (s .next .week) ∷
-    12 when ltb 604799 (s .next .time) ∷
-    7 when ltb 15 budget ∷
-    []
+placeRows s budget = under 12 (svnGstChecks (s .satellite) (s .next .week) (s .next .time)) ++ (7 when ltb 15 budget ∷ [])
 
 abbrev othersOf : State → ℕ → List Check
 othersOf s budget = 12 when ltb 15 (s .dsms .id) ∷ 12 when not (areFew (s .totals)) ∷ placeRows s budget
@@ -132,7 +127,7 @@ module _ (s : State) (budget : ℕ) where
         unfolding refusal
         other-totals h = behind (rw (le-ltb 15 (s .dsms .id) i, ← f, h))
 
-        module _ (h : not b ≡ false) {p : ℕ} (g : p ≡ refusal (newChecks (s .satellite) (s .next .week) (s .next .time))) where
+        module _ (h : not b ≡ false) {p : ℕ} (g : p ≡ refusal (svnGstChecks (s .satellite) (s .next .week) (s .next .time))) where
           beyond : {r : ℕ} → r ≡ refusal (placeRows s budget) → r ≡ refusal (replayChecks s budget)
           unfolding refusal
           beyond y = behind (rw (le-ltb 15 (s .dsms .id) i, ← f, h) y)

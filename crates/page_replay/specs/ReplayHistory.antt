@@ -8,13 +8,14 @@ use mathlib.Core.Bool.{cond}
 use mathlib.Core.Path.{_≡_}
 use lib.ListN.{length, getD, take, drop}
 use Rattle.layouts.specs.Answer.{Answer, refused, nothing, gives}
+use Rattle.layouts.specs.InavPage.{isCounted, osnma}
 use Rattle.subframes.specs.Subframe.{Page, State as Subframes, new as newSubframes, feed as feedPage}
 use Rattle.subframes.specs.SubframePromises.{state as subframeState}
 use Rattle.subframes.specs.SubframeRecovery.{after as afterPages, run as runOfPages, Recovers as PageRecovers}
 use Rattle.dsms.specs.Dsm.{State as Dsms, new as newDsms}
 use Rattle.dsms.specs.DsmPromises.{state as dsmState}
 use Rattle.dsms.specs.DsmRecovery.{Call as Block, fedTo, after as afterBlocks, run as runOfBlocks, Recovers as BlockRecovers}
-use Rattle.page_replay.specs.Replay.{Time, later, Dsm, Run, isCounted, osnma, hkrootOf, subframesIn, dsmsIn, pagesOf, replayed}
+use Rattle.page_replay.specs.Replay.{Time, later, Dsm, Run, hkrootOf, subframesIn, dsmsIn, pagesOf, replayed}
 use Rattle.page_replay.specs.ReplayPromises.{state, meaning-subframes, meaning-dsms, BeginReplay, ReplayPages}
 use Rattle.page_replay.specs.declared.replay.PageReplay.{PageReplay}
 use Rattle.page_replay.specs.declared.replay.Begun.{Begun}

@@ -3,16 +3,19 @@ use crate::page_step;
 use crate::page_step::Stepped;
 use dsms::dsm;
 use dsms::dsm::CollectDsm;
+use layouts::gst;
+use layouts::numbers;
 use subframes::subframe;
 use subframes::subframe::CollectSubframe;
 use subframes::subframe::Message;
 use subframes::subframe::SubframeShown;
 ghost use mathlib.Core.Path.{_≡_};
 ghost use mathlib.Core.List.{[], _++_};
-ghost use Prim.Native.Nat.{_+_, _*_, _^_, _≤_, min};
+ghost use Prim.Native.Nat.{_+_, _*_, _^_, _≤_};
 ghost use lib.ListN.{length};
 ghost use Rattle.layouts.specs.Answer.{refusal as refusalOf};
-ghost use Rattle.page_replay.specs.Replay.{new as newOf, andThen, replayed, pagesOf, areFew, newChecks, replayChecks};
+ghost use Rattle.layouts.specs.Gst.{svnGstChecks};
+ghost use Rattle.page_replay.specs.Replay.{new as newOf, andThen, replayed, pagesOf, areFew, replayChecks};
 ghost use Rattle.subframes.specs.Subframe.{recordChecks};
 ghost use Rattle.subframes.specs.SubframePromises.{state as subframeState};
 ghost use Rattle.page_replay.specs.ReplayPromises.{state, meaning-subframes, meaning-dsms, BeginReplay, ReplayPages};
@@ -69,21 +72,9 @@ pub struct Replayed {
 
 // The refusal number of a satellite, a week and a time; 0 for none.
 fn new_refuses(satellite: u8, week: u16, time: u32) -> u8
-    ensures { λ r. ⌜ r ≡ refusalOf (newChecks satellite week time) ⌝ }
+    ensures { λ r. ⌜ r ≡ refusalOf (svnGstChecks satellite week time) ⌝ }
 {
-    if satellite < 1 {
-        return 2;
-    }
-    if 36 < satellite {
-        return 2;
-    }
-    if 4095 < week {
-        return 3;
-    }
-    if 604799 < time {
-        return 4;
-    }
-    0
+    gst::refuses(satellite as u64, week as u64, time as u64)
 }
 
 // A record of no pages yet.
@@ -174,15 +165,6 @@ fn and_then(
         subframe,
         dsm: completed,
     }
-}
-
-fn smaller(a: usize, b: usize) -> usize
-    ensures { λ r. ⌜ r ≡ min a b ⌝ }
-{
-    if a < b {
-        return a;
-    }
-    b
 }
 
 // The first `n` pages.
@@ -300,7 +282,7 @@ pub fn replay(
             dsm: DsmDone::None,
         };
     }
-    let n = smaller(budget, pages.len() / 30);
+    let n = numbers::smaller(budget, pages.len() / 30);
     let done = run(record, hkroot, mack, dsm, pages, n);
     let replay = done.replay;
     let subframe = done.subframe;

@@ -1,9 +1,9 @@
--- `replay::later`: within the week, or into the next one.
+-- `page_time::later`: within the week, or into the next one.
 -- Assumes nothing.
 use Rattle.page_replay.proofs.PageSteps.{later-in-week, later-last-week, later-next-week}
 use borrow.Author.Needs.{needs}
-use Rattle.page_replay.proofs.inav_page.later.Statement.{statement}
-use Rattle.page_replay.proofs.inav_page.later.Tie as tie
+use Rattle.page_replay.proofs.page_time.later.Statement.{statement}
+use Rattle.page_replay.proofs.page_time.later.Tie as tie
 
 add-t4 : tie.Need-add-t4
 add-t4 c = search needs
