@@ -1,12 +1,14 @@
--- Whatever history of calls: what the code left is one run of the definition over the pages that were consumed, and its collectors are fed pages and blocks one by one.
+-- Whatever history of calls: what the code left is one run of the definition over the pages that were consumed, and its collectors are fed pages and
+-- blocks one by one.
 -- Assumes nothing.
 use Prim.Native.Nat.{ℕ}
 use native.Mathlib.Omega.{arith}
 use native.Mathlib.Decide.{ℕ-discrete}
-use mathlib.Core.Path.{_≡_, refl, sym, ap, _∙_, subst⁻¹}
+use mathlib.Core.Path.{_≡_, refl, sym, ap, _∙_, subst, subst⁻¹}
 use mathlib.Core.List.{List, [], _∷_, _++_, append-nil, append-assoc}
 use mathlib.Core.Bool.{Bool, true, false, cond}
 use lib.ListN.{length}
+use lib.Dec.{eqb}
 use Rattle.layouts.specs.Answer.{Answer, refused, nothing, gives, refusal}
 use Rattle.layouts.specs.InavPage.{isCounted}
 use Rattle.runs.specs.Runs.{afterAll}
@@ -15,16 +17,20 @@ use Rattle.subframes.specs.SubframeRecovery.{after as afterPages}
 use Rattle.dsms.specs.Dsm.{State as Dsms}
 use Rattle.dsms.specs.DsmRecovery.{Call as Block, fedTo, after as afterBlocks}
 use Rattle.page_replay.specs.Replay.{Time, later, Dsm, State, Run, subframesIn, dsmsIn, passedOn, fedHkroot, skipped, counted, fedPage, fed, pageStep}
-use Rattle.page_replay.specs.Replay.{andThen, onward, replayed, pagesOf, replayChecks, Outcome, replay}
-use Rattle.page_replay.specs.Pieces.{followedBy, answeredTo}
+use Rattle.page_replay.specs.Replay.{andThen, onward, replayed, pagesOf, consumed, replayChecks, Outcome, replay}
+use Rattle.page_replay.specs.Pieces.{followedBy, Call, answeredTo, reported as reported-answer}
 use Rattle.page_replay.specs.ReplayPromises.{state, outcome, meaning-replay, meaning-subframes, meaning-dsms, BeginReplay, ReplayPages}
 use Rattle.page_replay.specs.ReplayHistory.{Beginning, reported, Misfit, History, begun, called, misfit, fedAs, fedFrom, blocksIn, blocksFrom}
 use Rattle.page_replay.specs.ReplayHistory.{subframesFrom, dsmsFrom, firstSubframes, firstDsms, pagesFed, blocksFed, Recovered, ReplayRecovers}
+use Rattle.page_replay.specs.ReplayHistory.{Unchanged, RefusedChangesNothing, MisfitIsRefused}
 use Rattle.page_replay.specs.declared.replay.PageReplay.{PageReplay}
 use Rattle.page_replay.specs.declared.replay.ReplayAnswer.{ReplayAnswer}
 use Rattle.page_replay.specs.declared.replay.ReplayAnswer.the-variants.{Refused, Consumed}
 use Rattle.page_replay.specs.declared.replay.Replayed.{Replayed}
-use Rattle.page_replay.proofs.PagePieces.{split-anywhere}
+use Rattle.page_replay.proofs.PagePieces.{split-anywhere, call-consumes}
+use Rattle.page_replay.proofs.PageRefusals.{other-dsm-bytes, other-subframes, replay-refused}
+use Rattle.page_replay.proofs.ReplayUnique.{back-answer, back-subframes, back-dsms, back-state, undo-answer, undo-subframes, undo-dsms}
+use Rattle.subframes.proofs.Pages.{other-hkroot, other-mack}
 
 -- Lists of pages and blocks that are put together.
 after-append : {S A : Type 0} (step : S → A → S) (s : S) (ps qs : List A) → afterAll step s (ps ++ qs) ≡ afterAll step (afterAll step s ps) qs
@@ -102,6 +108,159 @@ step-place : (s : State) (page : List ℕ) → (pageStep s page .state .satellit
 unfolding pageStep fed counted skipped
 step-place s page = go (isCounted page)
   where
-    go : (b : Bool) → (cond b (fed s (fedPage s page)) (skipped s) .state .satellite ≡ s .satellite) × (cond b (fed s (fedPage s page)) (skipped s) .state .next ≡ later (s .next))
+    next : Bool → State
+    next b = cond b (fed s (fedPage s page)) (skipped s) .state
+
+    go : (b : Bool) → (next b .satellite ≡ s .satellite) × (next b .next ≡ later (s .next))
     go true = (refl, refl)
     go false = (refl, refl)
+
+-- One run after another.
+module _ (s : State) (ps qs : List Page) (r x : Run) (f : Feeds s ps r) (g : Feeds (r .state) qs x) where
+  abbrev bs : List Block
+  bs = blocksFrom (s .subframes) ps
+
+  abbrev es : List Block
+  es = blocksFrom (afterPages (s .subframes) ps) qs
+
+  then-blocks : blocksFrom (r .state .subframes) qs ≡ es
+  then-blocks = ap (λ (t : Subframes). blocksFrom t qs) (f .subframes-is)
+
+  feeds-more : Feeds s (ps ++ qs) (followedBy r x)
+  feeds-more =
+      record {
+        subframes-is =
+            g .subframes-is ∙ ap (λ (t : Subframes). afterPages t qs) (f .subframes-is)
+            ∙ sym (after-append (λ (t : Subframes) (p : Page). feedPage t p .state) (s .subframes) ps qs);
+        dsms-is =
+            g .dsms-is ∙ ap (afterBlocks (r .state .dsms)) then-blocks ∙ ap (λ (d : Dsms). afterBlocks d es) (f .dsms-is)
+            ∙ sym (after-append (λ (d : Dsms) (c : Block). fedTo d c .state) (s .dsms) bs es)
+            ∙ ap (afterBlocks (s .dsms)) (sym (blocks-append (s .subframes) ps qs));
+        subframes-done =
+            ap (λ (l : List Time). l ++ x .subframes) (f .subframes-done)
+            ∙ ap (λ (l : List Time). subframesFrom (s .subframes) ps ++ l) (g .subframes-done ∙ ap (λ (t : Subframes). subframesFrom t qs) (f .subframes-is))
+            ∙ sym (subframes-append (s .subframes) ps qs);
+        dsms-done =
+            ap (λ (l : List Dsm). l ++ x .dsms) (f .dsms-done)
+            ∙ ap (λ (l : List Dsm). dsmsFrom (s .dsms) bs ++ l)
+            (g .dsms-done ∙ ap (dsmsFrom (r .state .dsms)) then-blocks ∙ ap (λ (d : Dsms). dsmsFrom d es) (f .dsms-is))
+            ∙ sym (dsms-append (s .dsms) bs es) ∙ ap (dsmsFrom (s .dsms)) (sym (blocks-append (s .subframes) ps qs));
+      }
+
+one-more : (s : State) (page : List ℕ) (pages : List (List ℕ))
+    → replayed s (page ∷ pages) ≡ followedBy (pageStep s page) (replayed (pageStep s page .state) pages)
+unfolding replayed andThen
+one-more s page pages = split-anywhere s (page ∷ []) pages
+
+pub replay-feeds : (pages : List (List ℕ)) (s : State) → Feeds s (fedFrom (s .satellite) (s .next) pages) (replayed s pages)
+unfolding fedFrom replayed blocksFrom subframesFrom dsmsFrom
+replay-feeds [] s = record { subframes-is = refl; dsms-is = refl; subframes-done = refl; dsms-done = refl }
+replay-feeds (page ∷ pages) s =
+    let x : State = pageStep s page .state in
+    let place = step-place s page in
+    let same : fedFrom (x .satellite) (x .next) pages ≡ fedFrom (s .satellite) (later (s .next)) pages =
+    ap (λ (n : ℕ). fedFrom n (x .next) pages) (place .0) ∙ ap (λ (t : Time). fedFrom (s .satellite) t pages) (place .1) in
+    let rest : Feeds x (fedFrom (s .satellite) (later (s .next)) pages) (replayed x pages) =
+    subst (λ (l : List Page). Feeds x l (replayed x pages)) same (replay-feeds pages x) in
+    subst⁻¹ (λ (r : Run). Feeds s (fedAs (s .satellite) (s .next) page ++ fedFrom (s .satellite) (later (s .next)) pages) r) (one-more s page pages)
+    (feeds-more s (fedAs (s .satellite) (s .next) page) (fedFrom (s .satellite) (later (s .next)) pages) (pageStep s page) (replayed x pages)
+    (step-feeds s page) rest)
+
+-- A refused call.
+refused-outcome : (s : State) (bytes : List ℕ) (budget n : ℕ) → replay s bytes budget .answer ≡ refused n
+    → replay s bytes budget ≡ record { state = s; answer = refused n; subframes = []; dsms = [] }
+unfolding replay
+refused-outcome s bytes budget n = go (eqb q 0)
+  where
+    q : ℕ
+    q = refusal (replayChecks s budget)
+
+    ps : List (List ℕ)
+    ps = consumed bytes budget
+
+    either : Bool → Outcome
+    either b =
+        cond b
+        (record { state = replayed s ps .state; answer = gives (length ps ∷ []); subframes = replayed s ps .subframes; dsms = replayed s ps .dsms })
+        (record { state = s; answer = refused q; subframes = []; dsms = [] })
+
+    go : (b : Bool) → either b .answer ≡ refused n → either b ≡ record { state = s; answer = refused n; subframes = []; dsms = [] }
+    go true e = let z : _≡_ {A = ℕ} 0 1 = cc in absurd (omega arith)
+    go false e = ap (λ (a : Answer). record { state = s; answer = a; subframes = []; dsms = [] }) e
+
+module _ (c : PageReplay) (x y z bytes : List ℕ) (budget : ℕ) (r : Replayed) (x′ y′ z′ : List ℕ) where
+  -- what it hands back is the code's, if it means that
+  unchanged : (n : ℕ) → outcome r x′ y′ z′ ≡ record { state = state c x y z; answer = refused n; subframes = []; dsms = [] } → Unchanged c x y z r x′ y′ z′
+  unchanged n q =
+      record {
+        record-is = ap (λ (o : Outcome). back-state (o .state)) q;
+        hkroot-is = ap (λ (o : Outcome). o .state .subframes .hkroot) q;
+        mack-is = ap (λ (o : Outcome). o .state .subframes .mack) q;
+        memory-is = ap (λ (o : Outcome). o .state .dsms .memory) q;
+        no-subframe = sym (undo-subframes (r .subframe)) ∙ ap (λ (o : Outcome). back-subframes (o .subframes)) q;
+        no-dsm = sym (undo-dsms (r .dsm)) ∙ ap (λ (o : Outcome). back-dsms (o .dsms)) q;
+      }
+
+  misfit-1 : Misfit x y z → 1 ≡ refusal (replayChecks (state c x y z) budget)
+  misfit-1 w = go (ℕ-discrete (length x) 540) (ℕ-discrete (length y) 2160) (ℕ-discrete (length z) 208)
+    where
+      s : State
+      s = state c x y z
+
+      go : Dec (length x ≡ 540) → Dec (length y ≡ 2160) → Dec (length z ≡ 208) → 1 ≡ refusal (replayChecks (state c x y z) budget)
+      go h m (no d) = other-dsm-bytes (state c x y z) budget d
+      go (no h) m (yes d) = other-subframes (state c x y z) budget d (other-hkroot (state c x y z .subframes) h) (λ e. absurd (omega (arith, e)))
+      go (yes h) (no m) (yes d) = other-subframes (state c x y z) budget d (other-mack (state c x y z .subframes) h m) (λ e. absurd (omega (arith, e)))
+      go (yes h) (yes m) (yes d) = absurd (w (h, m, d))
+
+  misfit-call : Misfit x y z → ReplayPages c x y z bytes budget r x′ y′ z′ → (r .answer ≡ Refused 1) × Unchanged c x y z r x′ y′ z′
+  misfit-call w e =
+      let q : outcome r x′ y′ z′ ≡ record { state = state c x y z; answer = refused 1; subframes = []; dsms = [] } =
+      e ∙ sym (replay-refused (state c x y z) bytes budget (misfit-1 w) (λ f. absurd (omega (arith, f)))) in
+      (sym (undo-answer (r .answer)) ∙ ap (λ (o : Outcome). back-answer (o .answer)) q, unchanged 1 q)
+
+pub refused-changes-nothing : RefusedChangesNothing
+refused-changes-nothing c x y z bytes budget r x′ y′ z′ n e f =
+    let a : replay (state c x y z) bytes budget .answer ≡ refused n = ap (λ (o : Outcome). o .answer) (sym e) ∙ ap meaning-replay f in
+    unchanged c x y z bytes budget r x′ y′ z′ n (e ∙ refused-outcome (state c x y z) bytes budget n a)
+
+pub misfit-is-refused : MisfitIsRefused
+misfit-is-refused c x y z bytes budget r x′ y′ z′ w e = misfit-call c x y z bytes budget r x′ y′ z′ w e
+
+-- After a history: one run over the pages that were consumed.
+abbrev first : Beginning → State
+first b = state (b .replay) (b .hkroot) (b .mack) (b .memory)
+
+abbrev held : PageReplay → List ℕ → List ℕ → List ℕ → List Time → List Dsm → Run
+held c hkroot mack memory subframes dsms = record { state = state c hkroot mack memory; subframes = subframes; dsms = dsms }
+
+same-number : (a : ReplayAnswer) → reported a ≡ reported-answer (meaning-replay a)
+same-number (Refused n) = refl
+same-number (Consumed n) = refl
+
+called-run : (c : PageReplay) (h m d bytes : List ℕ) (budget : ℕ) (r : Replayed) (h′ m′ d′ : List ℕ) → ReplayPages c h m d bytes budget r h′ m′ d′
+    → held (r .replay) h′ m′ d′ (meaning-subframes (r .subframe)) (meaning-dsms (r .dsm)) ≡ replayed (state c h m d) (pagesOf (reported (r .answer)) bytes)
+called-run c h m d bytes budget r h′ m′ d′ e =
+    let s : State = state c h m d in
+    let call : Call = record { bytes = bytes; budget = budget } in
+    let number : reported (r .answer) ≡ reported-answer (answeredTo s call .answer) =
+    same-number (r .answer) ∙ ap (λ (o : Outcome). reported-answer (o .answer)) e in
+    ap (λ (o : Outcome). record { state = o .state; subframes = o .subframes; dsms = o .dsms }) e ∙ call-consumes s call
+    ∙ ap (λ (k : ℕ). replayed s (pagesOf k bytes)) (sym number)
+
+reached : {b : Beginning} {c : PageReplay} {h m d : List ℕ} {pages : List (List ℕ)} {subframes : List Time} {dsms : List Dsm}
+    → History b c h m d pages subframes dsms → held c h m d subframes dsms ≡ replayed (first b) pages
+unfolding replayed
+reached (begun satellite week time a e lh lm ld) = refl
+reached {b} (called {c = c} {hkroot = h} {mack = m} {memory = d} {pages = pages} {subframes = subframes} {dsms = dsms} k bytes budget r h′ m′ d′ e) =
+    let qs : List (List ℕ) = pagesOf (reported (r .answer)) bytes in
+    ap (followedBy (held c h m d subframes dsms)) (called-run c h m d bytes budget r h′ m′ d′ e)
+    ∙ ap (λ (x : Run). followedBy x (replayed (x .state) qs)) (reached k)
+    ∙ sym (split-anywhere (first b) pages qs)
+reached {b} (misfit {c = c} {x = x} {y = y} {z = z} {pages = pages} {subframes = subframes} {dsms = dsms} hkroot mack memory k w bytes budget r x′ y′ z′ e) =
+    let u = misfit-call c x y z bytes budget r x′ y′ z′ w e .1 in
+    ap (λ (q : PageReplay). held q (hkroot x′ y′ z′) (mack x′ y′ z′) (memory x′ y′ z′) subframes dsms) (u .record-is)
+    ∙ ap (λ (l : List ℕ). held c (hkroot l y′ z′) (mack l y′ z′) (memory l y′ z′) subframes dsms) (u .hkroot-is)
+    ∙ ap (λ (l : List ℕ). held c (hkroot x l z′) (mack x l z′) (memory x l z′) subframes dsms) (u .mack-is)
+    ∙ ap (λ (l : List ℕ). held c (hkroot x y l) (mack x y l) (memory x y l) subframes dsms) (u .memory-is)
+    ∙ reached k

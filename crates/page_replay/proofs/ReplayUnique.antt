@@ -19,43 +19,43 @@ use Rattle.page_replay.specs.declared.replay.ReplayAnswer.the-variants.{
 use Rattle.page_replay.specs.declared.replay.Replayed.{Replayed}
 
 -- `back` undoes each `meaning`
-abbrev back-begun : Answer → BegunAnswer
+abbrev pub back-begun : Answer → BegunAnswer
 back-begun (refused n) = Refused n
 back-begun nothing = Ready
 back-begun (gives l) = Ready
 
-undo-begun : (r : BegunAnswer) → back-begun (meaning-begun r) ≡ r
+pub undo-begun : (r : BegunAnswer) → back-begun (meaning-begun r) ≡ r
 undo-begun (Refused n) = refl
 undo-begun Ready = refl
 
-abbrev back-answer : Answer → ReplayAnswer
+abbrev pub back-answer : Answer → ReplayAnswer
 back-answer (refused n) = ReplayRefused n
 back-answer nothing = Consumed 0
 back-answer (gives []) = Consumed 0
 back-answer (gives (n ∷ l)) = Consumed n
 
-undo-answer : (r : ReplayAnswer) → back-answer (meaning-replay r) ≡ r
+pub undo-answer : (r : ReplayAnswer) → back-answer (meaning-replay r) ≡ r
 undo-answer (ReplayRefused n) = refl
 undo-answer (Consumed n) = refl
 
-abbrev back-subframes : List Time → SubframeDone
+abbrev pub back-subframes : List Time → SubframeDone
 back-subframes [] = None
 back-subframes (t ∷ l) = Subframe (t .week) (t .time)
 
-undo-subframes : (r : SubframeDone) → back-subframes (meaning-subframes r) ≡ r
+pub undo-subframes : (r : SubframeDone) → back-subframes (meaning-subframes r) ≡ r
 undo-subframes None = refl
 undo-subframes (Subframe w t) = refl
 
-abbrev back-dsms : List Dsm → DsmDone
+abbrev pub back-dsms : List Dsm → DsmDone
 back-dsms [] = NoDsm
 back-dsms (d ∷ l) = DsmIs (d .id) (d .bytes)
 
-undo-dsms : (r : DsmDone) → back-dsms (meaning-dsms r) ≡ r
+pub undo-dsms : (r : DsmDone) → back-dsms (meaning-dsms r) ≡ r
 undo-dsms NoDsm = refl
 undo-dsms (DsmIs i n) = refl
 
 -- the record is its state without the lent bytes
-abbrev back-state : State → PageReplay
+abbrev pub back-state : State → PageReplay
 back-state s =
     record {
       satellite = s .satellite;
