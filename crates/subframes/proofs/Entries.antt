@@ -12,8 +12,8 @@ use Rattle.layouts.specs.Gst.{svnGstChecks}
 use Rattle.layouts.proofs.Answers.{none-fails}
 use Rattle.subframes.specs.Subframe.{State, Page, Fed, recordChecks, feedChecks, feed}
 use Rattle.subframes.specs.Trace.{entryAt, entriesFrom, entries, FedMany, feedEach, traceChecks, feedAll}
-use Rattle.subframes.specs.PageInner.{pageOf, stateOf, answerOf, PageFed}
-use Rattle.subframes.specs.TraceInner.{completesOf, endsWith}
+use Rattle.subframes.specs.inner.Page.{pageOf, stateOf, answerOf, PageFed}
+use Rattle.subframes.specs.inner.Trace.{completesOf, endsWith}
 use Rattle.subframes.specs.declared.page.Entry.{Entry}
 use Rattle.subframes.specs.declared.page.PageTaken.{PageTaken}
 use Rattle.subframes.specs.declared.page.PageTaken.the-variants.{Unused, Used, Completes}

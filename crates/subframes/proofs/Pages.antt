@@ -13,14 +13,14 @@ use Rattle.layouts.specs.Gst.{svnChecks, svnGstChecks}
 use Rattle.layouts.proofs.Answers.{none-fails, stopped, went-on, copied-refused, copied-bytes}
 use Rattle.subframes.specs.Subframe.{State, Page, Fed, WordStep, wordOf, subframeOf, small, rangeChecks, recordChecks, viewChecks}
 use Rattle.subframes.specs.Subframe.{askChecks, feedChecks, takeWord, changed, put4, answerAt, used, offered, isUsed, feed, usedAnswer, view}
-use Rattle.subframes.specs.PageInner.{pageOf, stateOf, answerOf, usedOf, Offered, PageFed}
+use Rattle.subframes.specs.inner.Page.{pageOf, stateOf, answerOf, usedOf, Offered, PageFed}
 use Rattle.subframes.specs.SubframePromises.{state, TakeWord, meaning-word, sizeOf, bufferOf, meaning-shown, ViewSubframeShown, ViewSubframe}
 use Rattle.subframes.specs.declared.page.Entry.{Entry}
 use Rattle.subframes.specs.declared.page.PageTaken.{PageTaken}
 use Rattle.subframes.specs.declared.page.PageTaken.the-variants.{Unused, Used, Completes}
 use Rattle.subframes.specs.declared.subframe.Message.{Message}
 use Rattle.subframes.specs.declared.subframe.Message.the-variants.{Hkroot, Mack}
-use Rattle.subframes.specs.SubframeInner.{Inside}
+use Rattle.subframes.specs.inner.Subframe.{Inside}
 use Rattle.subframes.specs.declared.subframe.CollectSubframe.{CollectSubframe}
 use Rattle.subframes.specs.declared.subframe.SubframeShown.{SubframeShown}
 use Rattle.subframes.specs.declared.subframe.SubframeShown.the-variants.{Shown, Nothing as NothingShown, Refused as NotShown}

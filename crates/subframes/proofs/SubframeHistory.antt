@@ -7,25 +7,32 @@ use mathlib.Core.Path.{_≡_, refl, sym, ap, _∙_, subst, subst⁻¹}
 use mathlib.Core.List.{List, [], _∷_, _++_, append-nil, append-assoc}
 use mathlib.Core.Bool.{Bool, true, false, cond}
 use lib.ListN.{length, getD, take, replicate}
-use lib.Dec.{eqb}
+use lib.Dec.{ltb, eqb}
 use Rattle.layouts.specs.Answer.{Answer, refused, nothing, gives, shown, refusal}
-use Rattle.subframes.specs.Subframe.{State, new, Page, wordOf, subframeOf, Fed, small, recordChecks, feedChecks, changed, answerAt, used, offered, feed}
+use Rattle.layouts.specs.Answer.{Copied, copied}
+use Rattle.layouts.specs.Gst.{svnChecks}
+use Rattle.subframes.specs.Subframe.{State, new, Page, wordOf, subframeOf, Fed, small, recordChecks, viewChecks, feedChecks, changed, answerAt, used}
+use Rattle.subframes.specs.Subframe.{offered, feed, view}
 use Rattle.subframes.specs.Trace.{entries, FedMany, traceChecks, feedAll}
-use Rattle.subframes.specs.SubframePromises.{state, meaning-subframe, outcome, sizeOf, bufferOf, FeedSubframe}
+use Rattle.subframes.specs.SubframePromises.{state, meaning-subframe, meaning-shown, outcome, sizeOf, bufferOf, FeedSubframe}
 use Rattle.subframes.specs.TracePromises.{outcome-all, FeedAll}
-use Rattle.subframes.specs.SubframeRecovery.{isAdmitted, before, run, after, noPage, Alike, Viewed, Recovers}
-use Rattle.subframes.specs.SubframeHistory.{Call, one, many, Misfit, History, begun, called, misfit, Shows, FeedRecovers, FeedAllRecovers, MisfitRefused, CodeRecovers, AnyPages}
+use Rattle.subframes.specs.SubframeRecovery.{isAdmitted, before, run, after, noPage, hasWord, Words, Alike, Viewed, Recovers}
+use Rattle.subframes.specs.SubframeHistory.{Call, one, many, Misfit, History, begun, called, misfit, looked, ShowsPair, ShowsNone, FeedRecovers}
+use Rattle.subframes.specs.SubframeHistory.{FeedAllRecovers, MisfitRefused, CodeRecovers, AnyPages, wordPage, wordsFrom, WordsExample, SmallestCase}
+use Rattle.runs.proofs.Rising.{reaches}
 use Rattle.subframes.specs.declared.subframe.CollectSubframe.{CollectSubframe}
 use Rattle.subframes.specs.declared.subframe.SubframeAnswer.{SubframeAnswer}
 use Rattle.subframes.specs.declared.subframe.SubframeAnswer.the-variants.{Refused, Nothing, Complete}
 use Rattle.subframes.specs.declared.subframe.SubframeFed.{SubframeFed}
+use Rattle.subframes.specs.declared.subframe.SubframeShown.{SubframeShown}
+use Rattle.subframes.specs.declared.subframe.SubframeShown.the-variants.{Shown, Nothing as NothingShown, Refused as NotShown}
 use Rattle.subframes.specs.declared.trace.TraceFed.{TraceFed}
-use Rattle.subframes.proofs.Pages.{feed-refused, other-hkroot, other-mack, other-page, not-taken}
+use Rattle.subframes.proofs.Pages.{feed-refused, other-hkroot, other-mack, other-page, not-taken, not-seen, view-refused}
 use Rattle.subframes.proofs.Entries.{not-whole, whole, all-refused}
-use Rattle.subframes.proofs.SubframeSound.{Sound, sound-fed, sound-admitted}
+use Rattle.subframes.proofs.SubframeSound.{Sound, sound-fed, sound-admitted, sound-passes}
 use Rattle.subframes.proofs.SubframeRecovery.{subframes-recover, subframes-show}
 use Rattle.subframes.proofs.TraceSteps.{after-more, after-next, Walked, walked-all}
-use Rattle.subframes.proofs.SubframeUnique.{back-subframe, undo-subframe, back-state}
+use Rattle.subframes.proofs.SubframeUnique.{back-subframe, undo-subframe, back-state, view-subframe-shown, view-subframe, hkroot-message}
 
 -- Lent bytes of other lengths: every call is refused with 1.
 misfit-record : (s : State) → Misfit (s .hkroot) (s .mack) → 1 ≡ refusal (recordChecks s)
@@ -93,6 +100,7 @@ reached (begun c h m e lh lm) = record { hkroot = h; mack = m; h540 = lh; m2160 
 reached (called {ps = ps} {qs = qs} k call) =
     let w = reached k in
     record { hkroot = w .hkroot; mack = w .mack; h540 = w .h540; m2160 = w .m2160; is = call-feeds call ∙ ap (λ (s : State). after s qs) (w .is) ∙ sym (after-more (new (w .hkroot) (w .mack)) ps qs) }
+reached (looked k l) = reached k
 reached (misfit {c = c} {x = x} {y = y} {x′ = x′} {y′ = y′} {ps = ps} hkroot mack k w call) =
     let q = misfit-call w call in
     subst⁻¹ (λ (d : CollectSubframe). Reached (state d (hkroot x′ y′) (mack x′ y′)) ps) (q .record-is)
@@ -120,25 +128,74 @@ module _ {s : State} {ps : List Page} (w : Reached s ps) where
       subst⁻¹ (λ (g : Fed). Recovers s (run ps) p g) e
       (subst⁻¹ (λ (t : State). Recovers t (run ps) p (feed t p)) (w .is) (subframes-recover (w .hkroot) (w .mack) (w .h540) (w .m2160) ps p))
 
--- What the viewer hands out.
-viewer-shows : (c : CollectSubframe) (h m : List ℕ) (r : List Page) (n : ℕ) → Viewed (state c h m) r n → Shows c h m r n
-unfolding shown
-viewer-shows c h m r n v =
-    record {
-      pair = λ w.
-          let b = v .pair w in (
-            b .0 .choice,
-            b .0 .earliest,
-            λ l e. e ∙ ap (shown h) (b .1 15) ∙ b .0 .hkroot-is,
-            λ l e. e ∙ ap (shown m) (b .1 60) ∙ b .0 .mack-is,
-          );
-      none = λ w k l e. e ∙ ap (shown (bufferOf k h m)) (v .none w (sizeOf k));
-    }
+-- What the calls that only read hand out.
+module _ (c : CollectSubframe) (h m : List ℕ) (n : ℕ) where
+  shows-words : (r : List Page) → Viewed (state c h m) r n → Words n r → ShowsPair c h m r n
+  unfolding shown copied
+  shows-words r v w =
+      let b = v .pair w in
+      record {
+        choice = b .0 .choice;
+        earliest = b .0 .earliest;
+        question = λ k a e. view-subframe-shown c h m k n a (Shown (sizeOf k * (n - 1)) (sizeOf k)) e (sym (b .1 (sizeOf k)));
+        hkroot-part = λ l e. e ∙ ap (shown h) (b .1 15) ∙ b .0 .hkroot-is;
+        mack-part = λ l e. e ∙ ap (shown m) (b .1 60) ∙ b .0 .mack-is;
+        whole = λ a e. ap (λ (f : Copied). f .bytes) (e ∙ ap (copied 15 h) (b .1 15)) ∙ b .0 .hkroot-is;
+      }
 
-shows : {c : CollectSubframe} {h m : List ℕ} {ps : List Page} → History c h m ps → (n : ℕ) → 1 ≤ n → n ≤ 36 → Shows c h m (run ps) n
-shows {c} {h} {m} {ps} k n some few =
-    let w = reached k in
-    viewer-shows c h m (run ps) n (subst⁻¹ (λ (s : State). Viewed s (run ps) n) (w .is) (subframes-show (w .hkroot) (w .mack) (w .h540) (w .m2160) ps n some few))
+  -- no bytes beside such an answer
+  record Bare (x : SubframeShown) : Type 0 where
+    part-is : (l : List ℕ) → shown l (meaning-shown x) ≡ []
+    whole-is : copied 15 h (meaning-shown x) ≡ record { answer = meaning-shown x; bytes = replicate 15 0 }
+
+  bare-nothing : Bare NothingShown
+  unfolding shown copied
+  bare-nothing = record { part-is = λ l. refl; whole-is = refl }
+
+  bare-refused : (q : ℕ) → Bare (NotShown q)
+  unfolding shown copied
+  bare-refused q = record { part-is = λ l. refl; whole-is = refl }
+
+  shows-bare : (x : SubframeShown) → Bare x → ((size : ℕ) → view (state c h m) size n ≡ meaning-shown x) → ShowsNone c h m n x
+  shows-bare x b v =
+      record {
+        question = λ k a e. view-subframe-shown c h m k n a x e (sym (v (sizeOf k)));
+        part = λ k l e. e ∙ ap (shown (bufferOf k h m)) (v (sizeOf k)) ∙ b .part-is (bufferOf k h m);
+        whole = λ a e. hkroot-message c h m n a (record { answer = x; bytes = replicate 15 0 }) e (sym (ap (copied 15 h) (v 15) ∙ b .whole-is));
+      }
+
+  shows-number : (q : ℕ) → (q ≡ 0 → ⊥) → q ≡ refusal (viewChecks (state c h m) n) → ShowsNone c h m n (NotShown q)
+  shows-number q ne e = shows-bare (NotShown q) (bare-refused q) (λ size. sym (view-refused (state c h m) size n e ne))
+
+-- only 2 is given of a satellite
+svn-number : (n : ℕ) → (refusal (svnChecks n) ≡ 0 → ⊥) → 2 ≡ refusal (svnChecks n)
+unfolding refusal
+svn-number n ne = go (ltb n 1) (ltb 36 n) ne
+  where
+    go : (a b : Bool) → (_≡_ {A = ℕ} (cond a 2 (cond b 2 0)) 0 → ⊥) → _≡_ {A = ℕ} 2 (cond a 2 (cond b 2 0))
+    go true b ne = refl
+    go false true ne = refl
+    go false false ne = absurd (ne refl)
+
+shows-misfit : (c : CollectSubframe) (x y : List ℕ) (n : ℕ) → Misfit x y → ShowsNone c x y n (NotShown 1)
+shows-misfit c x y n w =
+    shows-number c x y n 1 (λ z. absurd (omega (arith, z))) (not-seen (state c x y) n (misfit-record (state c x y) w) (λ z. absurd (omega (arith, z))))
+
+module _ {c : CollectSubframe} {h m : List ℕ} {ps : List Page} (k : History c h m ps) (n : ℕ) where
+  viewed : 1 ≤ n → n ≤ 36 → Viewed (state c h m) (run ps) n
+  viewed some few =
+      let w = reached k in
+      subst⁻¹ (λ (s : State). Viewed s (run ps) n) (w .is) (subframes-show (w .hkroot) (w .mack) (w .h540) (w .m2160) ps n some few)
+
+  shows-pair : 1 ≤ n → n ≤ 36 → Words n (run ps) → ShowsPair c h m (run ps) n
+  shows-pair some few = shows-words c h m n (run ps) (viewed some few)
+
+  shows-none : 1 ≤ n → n ≤ 36 → (Words n (run ps) → ⊥) → ShowsNone c h m n NothingShown
+  shows-none some few w = shows-bare c h m n NothingShown (bare-nothing c h m n) (λ size. viewed some few .none w size)
+
+  shows-refused : (refusal (svnChecks n) ≡ 0 → ⊥) → ShowsNone c h m n (NotShown 2)
+  shows-refused ne =
+      shows-number c h m n 2 (λ z. absurd (omega (arith, z))) (svn-number n ne ∙ sym (sound-passes (state c h m) (reached-sound (reached k)) (svnChecks n)))
 
 feed-recovers : {c : CollectSubframe} {h m : List ℕ} {ps : List Page} → History c h m ps
     → (p : Page) (r : SubframeFed) (h′ m′ : List ℕ) → FeedSubframe c h m p r h′ m′ → FeedRecovers c h m ps p r h′ m′
@@ -170,6 +227,9 @@ not-admitted s r p f w q e = go (isAdmitted p) refl
 whole-passes : (s : State) (trace : List ℕ) → Sound s → length trace % 12 ≡ 0 → refusal (traceChecks s trace) ≡ 0
 whole-passes s trace d l = sym (whole s trace l (sound-admitted s d))
 
+pub whole-passed : {c : CollectSubframe} {h m : List ℕ} {ps : List Page} → History c h m ps → (trace : List ℕ) → length trace % 12 ≡ 0 → refusal (traceChecks (state c h m) trace) ≡ 0
+whole-passed {c} {h} {m} k trace l = whole-passes (state c h m) trace (reached-sound (reached k)) l
+
 module _ {c : CollectSubframe} {h m : List ℕ} {ps : List Page} (j : History c h m ps) (trace : List ℕ) (r : TraceFed) (h′ m′ : List ℕ) (e : FeedAll c h m trace r h′ m′) where
   abbrev s : State
   s = state c h m
@@ -190,6 +250,7 @@ module _ {c : CollectSubframe} {h m : List ℕ} {ps : List Page} (j : History c 
   feed-all-recovers =
       record {
         some = omega (arith, w .few, same);
+        state-is = call-feeds (many trace r h′ m′ e);
         before-last = λ k l.
             reached-recovers (at k) (getD es k noPage) (record { state = after s (take (suc k) es); answer = nothing })
             (ap (λ (t : State). record { state = t; answer = nothing }) (after-next s es k (omega (arith, l, w .few, same)))
@@ -205,10 +266,22 @@ module _ {c : CollectSubframe} {h m : List ℕ} {ps : List Page} (j : History c 
             let y : isAdmitted (getD es (w .more) noPage) ≡ false = not-admitted (after s (take (w .more) es)) (run (ps ++ take (w .more) es)) (getD es (w .more) noPage) (feed (after s (take (w .more) es)) (getD es (w .more) noPage))
             (reached-recovers (at (w .more)) (getD es (w .more) noPage) (feed (after s (take (w .more) es)) (getD es (w .more) noPage)) refl) (x .0) (x .1) in
             ap (λ (n : ℕ). isAdmitted (getD es n noPage)) same ∙ y;
+        not-whole = λ l.
+            let q : outcome-all r h′ m′ ≡ record { state = s; answer = refused 1; consumed = 0 } = e ∙ sym (all-refused s trace (not-whole s trace l) (λ z. absurd (omega (arith, z)))) in
+            (answer-back (r .answer) (Refused 1) (ap (λ (f : FedMany). f .answer) q), ap (λ (f : FedMany). f .consumed) q);
       }
 
 pub code-recovers : CodeRecovers
-code-recovers = record { shows = shows; feed-recovers = feed-recovers; feed-all-recovers = feed-all-recovers; misfit-refused = misfit-call }
+code-recovers =
+    record {
+      shows-pair = shows-pair;
+      shows-none = shows-none;
+      shows-refused = shows-refused;
+      shows-misfit = shows-misfit;
+      feed-recovers = feed-recovers;
+      feed-all-recovers = feed-all-recovers;
+      misfit-refused = misfit-call;
+    }
 
 -- Every answer of the definition is one of the code's.
 abbrev Coded : Answer → Type 0
@@ -243,3 +316,34 @@ any-more {c} {h} {m} {qs} k (p ∷ ps) =
 
 pub any-pages : AnyPages
 any-pages h m lh lm ps = any-more (begun (record { week = 0; subframe = 0; counts = replicate 36 0 }) h m refl lh lm) ps
+
+-- Words counted.
+pub words-example : WordsExample
+unfolding refusal
+words-example =
+    record {
+      fifteen = reaches (hasWord 7) noPage (run (wordsFrom 0 15)) 0 15 .0 (omega arith);
+      fourteen = λ w. absurd (omega (arith, reaches (hasWord 7) noPage (run (wordsFrom 0 14)) 0 15 .1 w));
+    }
+
+-- Words 0 to 6, a call that lends 539 bytes, words 7 to 14.
+fourteen-then : (f : Fed) → Alike f (feed (after (new (replicate 540 0) (replicate 2160 0)) (before (run (wordsFrom 0 14)) (wordPage 14))) (wordPage 14))
+    → f .answer ≡ gives (1200 ∷ 60 ∷ [])
+unfolding feed offered used changed answerAt refusal small
+fourteen-then f a = a .answer
+
+fifteenth : isAdmitted (wordPage 14) ≡ true
+unfolding refusal
+fifteenth = refl
+
+pub smallest-case : SmallestCase
+smallest-case =
+    record {
+      refused-between = λ {c} {hkroot = h} {mack = m} k x l p r x′ m′ e.
+          let w : Misfit x m = (λ z. absurd (omega (arith, z .0, l))) in
+          (misfit-call w (one p r x′ m′ e) .answer, misfit (λ a b. h) (λ a b. b) k w (one p r x′ m′ e));
+      comes-out = λ k r h′ m′ e.
+          let f = feed-recovers k (wordPage 14) r h′ m′ e in
+          answer-back (r .answer) (Complete 1200 60)
+          (fourteen-then (outcome r h′ m′) (f .recovers .like-new (replicate 540 0) (replicate 2160 0) refl refl fifteenth));
+    }

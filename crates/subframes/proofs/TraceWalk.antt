@@ -1,27 +1,27 @@
--- A whole trace: `feed_all`, called again and again with what is left, feeds its entries.
+-- A whole trace: `feed_all`, called again and again with what is left, tells of every entry.
 -- Assumes nothing.
 use Prim.Native.Nat.{ℕ, zero, suc, _+_, _-_, _*_, _/_, _%_, _≤_, _<_}
 use native.Mathlib.Omega.{arith}
-use native.Mathlib.Decide.{ℕ-discrete}
 use mathlib.Core.Path.{_≡_, refl, sym, ap, _∙_, subst, subst⁻¹}
 use mathlib.Core.List.{List, [], _∷_, _++_, append-nil, append-assoc}
-use mathlib.Core.Bool.{true, false}
-use lib.ListN.{length, getD, take, drop, length-drop}
+use mathlib.Core.Bool.{Bool, true, false, cond}
+use lib.ListN.{length, getD, take, drop, replicate, length-drop}
 use lib.Seq.{getD-drop, drop-drop, take-add}
-use Rattle.layouts.specs.Answer.{Answer, gives}
-use Rattle.subframes.specs.Subframe.{State, Page}
-use Rattle.subframes.specs.Trace.{entryAt, entriesFrom, entries, FedMany}
+use Rattle.layouts.specs.Answer.{Answer, refused, nothing, gives, refusal}
+use Rattle.subframes.specs.Subframe.{State, Page, small, changed, answerAt, used, offered, feed}
+use Rattle.subframes.specs.Trace.{entryAt, entriesFrom, entries, FedMany, traceChecks, feedEach, feedAll}
 use Rattle.subframes.specs.SubframePromises.{state, meaning-subframe}
-use Rattle.subframes.specs.TracePromises.{FeedAll}
-use Rattle.subframes.specs.SubframeRecovery.{isAdmitted, after, noPage}
+use Rattle.subframes.specs.TracePromises.{outcome-all, FeedAll}
+use Rattle.runs.specs.Runs.{runFrom, runWith}
+use Rattle.subframes.specs.SubframeRecovery.{isAdmitted, sameSubframe, grown, run, after, noPage}
 use Rattle.subframes.specs.SubframeHistory.{many, History, called}
-use Rattle.subframes.specs.TraceWalk.{completion, completions, Walk, begins, goes-on, Walks, TraceWalked}
+use Rattle.subframes.specs.TraceWalk.{answers, told, tells, Walk, begins, goes-on, Walks, TraceWalked, threeEntries, sevenAt, WalkExample}
 use Rattle.subframes.specs.declared.subframe.CollectSubframe.{CollectSubframe}
 use Rattle.subframes.specs.declared.subframe.SubframeAnswer.{SubframeAnswer}
-use Rattle.subframes.specs.declared.subframe.SubframeAnswer.the-variants.{Complete}
+use Rattle.subframes.specs.declared.subframe.SubframeAnswer.the-variants.{Refused, Nothing, Complete}
 use Rattle.subframes.specs.declared.trace.TraceFed.{TraceFed}
-use Rattle.subframes.proofs.TraceSteps.{after-more, completions-more, walked-all}
-use Rattle.subframes.proofs.SubframeHistory.{call-feeds, feed-all-recovers}
+use Rattle.subframes.proofs.TraceSteps.{after-more, answers-more, Walked, Tells, walked-all}
+use Rattle.subframes.proofs.SubframeHistory.{whole-passed, feed-all-recovers}
 
 -- The entries that are left.
 entry-later : (trace : List ℕ) (k j : ℕ) → entryAt (drop (12 * k) trace) j ≡ entryAt trace (k + j)
@@ -67,64 +67,148 @@ rest-is trace k h =
     entries-later trace k 0 (length (drop (12 * k) trace) / 12) ∙ ap (λ (i : ℕ). entriesFrom trace (k + 0) i) n ∙ ap (λ (i : ℕ). entriesFrom trace i (length trace / 12 - k)) z
     ∙ sym (drop-entries trace k 0 (length trace / 12) few)
 
--- Of the whole entries that are left.
-getD-rest : (trace : List ℕ) (k : ℕ) → k ≤ length (entries trace) → getD (entries (drop (12 * k) trace)) 0 noPage ≡ getD (entries trace) k noPage
-getD-rest trace k h = let z : k + 0 ≡ k = omega arith in ap (λ (l : List Page). getD l 0 noPage) (rest-is trace k h) ∙ getD-drop k (entries trace) 0 noPage ∙ ap (λ (i : ℕ). getD (entries trace) i noPage) z
+-- A page that is not admitted belongs to no run.
+run-append : (r a b : List Page) → runFrom isAdmitted sameSubframe r (a ++ b) ≡ runFrom isAdmitted sameSubframe (runFrom isAdmitted sameSubframe r a) b
+run-append r [] b = refl
+run-append r (p ∷ a) b = run-append (grown r p) a b
 
--- a call that consumes none completes none
-none-complete : (a : SubframeAnswer) → completion (meaning-subframe a) ≡ [] → (week time : ℕ) → a ≡ Complete week time → ⊥
-none-complete a e week time f = let g : gives (week ∷ time ∷ []) ∷ [] ≡ [] = rw f at e in let z : _≡_ {A = ℕ} 0 1 = ap length (sym g) in absurd (omega (arith, z))
+run-over : (ps : List Page) (p : Page) → isAdmitted p ≡ false → run (ps ++ (p ∷ [])) ≡ run ps
+run-over ps p e = run-append [] ps (p ∷ []) ∙ rw e
 
-module _ (trace : List ℕ) (c : CollectSubframe) (h m : List ℕ) (ps : List Page) (j : History c h m ps) where
+run-alike : (ps qs us : List Page) → run ps ≡ run qs → run (ps ++ us) ≡ run (qs ++ us)
+run-alike ps qs us e = run-append [] ps us ∙ ap (λ (r : List Page). runFrom isAdmitted sameSubframe r us) e ∙ sym (run-append [] qs us)
+
+take-1 : (ps : List Page) → 0 < length ps → take 1 ps ≡ getD ps 0 noPage ∷ []
+take-1 [] h = absurd (omega arith)
+take-1 (p ∷ ps) h = refl
+
+not-complete : (a : SubframeAnswer) (q : ℕ) → meaning-subframe a ≡ refused q → (week time : ℕ) → a ≡ Complete week time → ⊥
+not-complete a q e week time f =
+    let g : gives (week ∷ time ∷ []) ≡ refused q = rw f at e in
+    let z : _≡_ {A = ℕ} 0 1 = cc in
+    absurd (omega arith)
+
+-- One call with whole entries.
+module _ {d : CollectSubframe} {x y : List ℕ} {qs : List Page} (j : History d x y qs) (rest : List ℕ) (whole : length rest % 12 ≡ 0)
+    (r : TraceFed) (x′ y′ : List ℕ) (e : FeedAll d x y rest r x′ y′) where
+  abbrev t : State
+  t = state d x y
+
+  w : Walked (refusal (traceChecks t rest) ≡ 0) 0 t (entries rest) (feedAll t rest)
+  w = walked-all t rest
+
+  same : w .more ≡ r .consumed
+  same = omega (arith, w .consumed-is, ap (λ (f : FedMany). f .consumed) e)
+
+  said : feedAll t rest .answer ≡ meaning-subframe (r .answer)
+  said = sym (ap (λ (f : FedMany). f .answer) e)
+
+  told-is : told (w .more) (feedAll t rest .answer) ≡ tells r
+  told-is = ap (λ (n : ℕ). told n (feedAll t rest .answer)) same ∙ ap (told (r .consumed)) said
+
+  fine : refusal (traceChecks t rest) ≡ 0
+  fine = whole-passed j rest whole
+
+  pub call-tells : Tells t (entries rest) (state (r .collector) x′ y′) (tells r)
+  call-tells =
+      subst (λ (l : List Answer). Tells t (entries rest) (state (r .collector) x′ y′) l) told-is
+      (subst (λ (u : State). Tells t (entries rest) u (told (w .more) (feedAll t rest .answer))) (sym (ap (λ (f : FedMany). f .state) e)) (w .tells fine))
+
+  pub call-onward : 0 < length (entries rest) → 0 < length (tells r)
+  call-onward h = subst (λ (l : List Answer). 0 < length l) told-is (w .onward fine refl h)
+
+  -- the entries that it told of are in the run as those that it consumed are
+  pub call-run : run (qs ++ take (r .consumed) (entries rest)) ≡ run (qs ++ take (length (tells r)) (entries rest))
+  call-run = go (meaning-subframe (r .answer)) refl
+    where
+      as-many : ((q : ℕ) → meaning-subframe (r .answer) ≡ refused q → ⊥) → length (tells r) ≡ r .consumed
+      as-many ne = ap length (sym told-is) ∙ w .length-told (λ q f. ne q (sym said ∙ f)) ∙ same
+
+      alike : ((q : ℕ) → meaning-subframe (r .answer) ≡ refused q → ⊥)
+          → run (qs ++ take (r .consumed) (entries rest)) ≡ run (qs ++ take (length (tells r)) (entries rest))
+      alike ne = ap (λ (n : ℕ). run (qs ++ take n (entries rest))) (sym (as-many ne))
+
+      go : (a : Answer) → meaning-subframe (r .answer) ≡ a → run (qs ++ take (r .consumed) (entries rest)) ≡ run (qs ++ take (length (tells r)) (entries rest))
+      go nothing f = alike (λ q g. let h : nothing ≡ refused q = sym f ∙ g in let z : _≡_ {A = ℕ} 0 1 = cc in absurd (omega arith))
+      go (gives l) f = alike (λ q g. let h : gives l ≡ refused q = sym f ∙ g in let z : _≡_ {A = ℕ} 0 1 = cc in absurd (omega arith))
+      go (refused q) f =
+          let none : r .consumed ≡ 0 = sym same ∙ w .refused-none q (said ∙ f) in
+          let one : length (tells r) ≡ 1 = ap (λ (a : Answer). length (told (r .consumed) a)) f in
+          let some : 0 < length (entries rest) = omega (arith, one, call-tells .room) in
+          let first = feed-all-recovers j rest r x′ y′ e .stops whole (omega (arith, none, some)) (not-complete (r .answer) q f) in
+          let off : isAdmitted (getD (entries rest) 0 noPage) ≡ false = ap (λ (n : ℕ). isAdmitted (getD (entries rest) n noPage)) (sym none) ∙ first in
+          ap (λ (n : ℕ). run (qs ++ take n (entries rest))) none
+          ∙ ap run (append-nil qs)
+          ∙ sym (run-over qs (getD (entries rest) 0 noPage) off)
+          ∙ ap (λ (l : List Page). run (qs ++ l)) (sym (take-1 (entries rest) some))
+          ∙ ap (λ (n : ℕ). run (qs ++ take n (entries rest))) (sym one)
+
+-- All of them.
+module _ (trace : List ℕ) (whole : length trace % 12 ≡ 0) (c : CollectSubframe) (h m : List ℕ) (ps : List Page) (j : History c h m ps) where
   abbrev s : State
   s = state c h m
 
   abbrev es : List Page
   es = entries trace
 
-  -- the next call, wherever the calls before led
-  next-consumes : {k : ℕ} {d : CollectSubframe} {x y : List ℕ} → k ≤ length es → History d x y (ps ++ take k es)
-      → length trace % 12 ≡ 0 → k < length es → isAdmitted (getD es k noPage) ≡ true → (r : TraceFed) (x′ y′ : List ℕ) → FeedAll d x y (drop (12 * k) trace) r x′ y′ → 0 < r .consumed
-  next-consumes {k} {d} {x} {y} inside at whole less fine r x′ y′ e = go (ℕ-discrete (r .consumed) 0)
-    where
-      go : Dec (r .consumed ≡ 0) → 0 < r .consumed
-      go (no ne) = omega (arith, ne)
-      go (yes z) =
-          let w = walked-all (state d x y) (drop (12 * k) trace) in
-          let more : w .more ≡ 0 = omega (arith, z, w .consumed-is, ap (λ (f : FedMany). f .consumed) e) in
-          let quiet : completion (meaning-subframe (r .answer)) ≡ [] = ap (λ (f : FedMany). completion (f .answer)) e ∙ w .completes ∙ ap (λ (n : ℕ). completions (state d x y) (take n (entries (drop (12 * k) trace)))) more in
-          let few : k ≤ length trace / 12 = omega (arith, inside, length-entries trace 0 (length trace / 12)) in
-          let left : length (drop (12 * k) trace) % 12 ≡ 0 = rw (length-drop (12 * k) trace) (omega (arith, few, whole)) in
-          let room : length (drop (12 * k) trace) / 12 ≡ length trace / 12 - k = rw (length-drop (12 * k) trace) (omega (arith, few)) in
-          let some : r .consumed < length (entries (drop (12 * k) trace)) = omega (arith, z, less, room, length-entries trace 0 (length trace / 12), length-entries (drop (12 * k) trace) 0 (length (drop (12 * k) trace) / 12)) in
-          let stop = feed-all-recovers at (drop (12 * k) trace) r x′ y′ e .stops left some (none-complete (r .answer) quiet) in
-          let no : isAdmitted (getD es k noPage) ≡ false = ap isAdmitted (sym (getD-rest trace k inside)) ∙ ap (λ (n : ℕ). isAdmitted (getD (entries (drop (12 * k) trace)) n noPage)) (sym z) ∙ stop in
-          let both : true ≡ false = sym fine ∙ no in
-          let y : _≡_ {A = ℕ} 0 1 = cc in absurd (omega arith)
+  abbrev left : ℕ → List ℕ
+  left k = drop (12 * k) trace
+
+  left-whole : (k : ℕ) → k ≤ length es → length (left k) % 12 ≡ 0
+  left-whole k inside =
+      let few : k ≤ length trace / 12 = omega (arith, inside, length-entries trace 0 (length trace / 12)) in
+      rw (length-drop (12 * k) trace) (omega (arith, few, whole))
+
+  left-many : (k : ℕ) → k ≤ length es → length (entries (left k)) ≡ length es - k
+  left-many k inside = ap length (rest-is trace k inside) ∙ length-drop k es
 
   walks : {k : ℕ} {done : List Answer} {d : CollectSubframe} {x y : List ℕ} → Walk trace c h m k done d x y → Walks trace c h m ps k done d x y
   walks begins =
-      let at : History c h m (ps ++ []) = subst⁻¹ (λ (l : List Page). History c h m l) (append-nil ps) j in
-      record { inside = omega arith; state-is = refl; done-is = refl; history = at; onward = next-consumes (omega arith) at }
-  walks (goes-on {k} {done} {d} {x} {y} w r x′ y′ e) =
-      let v = walks w in
-      let call = many (drop (12 * k) trace) r x′ y′ e in
-      let here = walked-all (state d x y) (drop (12 * k) trace) in
-      let more : here .more ≡ r .consumed = omega (arith, here .consumed-is, ap (λ (f : FedMany). f .consumed) e) in
-      let rest : entries (drop (12 * k) trace) ≡ drop k es = rest-is trace k (v .inside) in
-      let all : take k es ++ take (r .consumed) (entries (drop (12 * k) trace)) ≡ take (k + r .consumed) es = ap (λ (l : List Page). take k es ++ take (r .consumed) l) rest ∙ sym (take-add k (r .consumed) es) in
-      let inside : k + r .consumed ≤ length es = omega (arith, v .inside, here .few, more, ap length rest, length-drop k es) in
-      let at : History (r .collector) x′ y′ (ps ++ take (k + r .consumed) es) = subst (λ (l : List Page). History (r .collector) x′ y′ l) (append-assoc ps (take k es) (take (r .consumed) (entries (drop (12 * k) trace))) ∙ ap (λ (l : List Page). ps ++ l) all) (called (v .history) call) in
+      record {
+        inside = omega arith;
+        state-is = refl;
+        done-is = refl;
+        history = (ps, j, ap run (sym (append-nil ps)));
+        onward = λ less r x′ y′ e. call-onward j (left 0) (left-whole 0 (omega arith)) r x′ y′ e (omega (arith, less, left-many 0 (omega arith)));
+      }
+  walks (goes-on {k} {done} {d} {x} {y} before r x′ y′ e) =
+      let v = walks before in
+      let qs = v .history .0 in
+      let n = length (tells r) in
+      let fed = call-tells (v .history .1) (left k) (left-whole k (v .inside)) r x′ y′ e in
+      let rest : entries (left k) ≡ drop k es = rest-is trace k (v .inside) in
+      let all : take k es ++ take n (entries (left k)) ≡ take (k + n) es = ap (λ (l : List Page). take k es ++ take n l) rest ∙ sym (take-add k n es) in
+      let inside : k + n ≤ length es = omega (arith, v .inside, fed .room, left-many k (v .inside)) in
+      let at : History (r .collector) x′ y′ (qs ++ take (r .consumed) (entries (left k))) = called (v .history .1) (many (left k) r x′ y′ e) in
       record {
         inside = inside;
-        state-is = call-feeds call ∙ ap (λ (t : State). after t (take (r .consumed) (entries (drop (12 * k) trace)))) (v .state-is) ∙ sym (after-more s (take k es) (take (r .consumed) (entries (drop (12 * k) trace)))) ∙ ap (after s) all;
-        done-is = ap (λ (l : List Answer). l ++ completion (meaning-subframe (r .answer))) (v .done-is)
-            ∙ ap (λ (l : List Answer). completions s (take k es) ++ l)
-            (ap (λ (f : FedMany). completion (f .answer)) e ∙ here .completes ∙ ap (λ (n : ℕ). completions (state d x y) (take n (entries (drop (12 * k) trace)))) more ∙ ap (λ (t : State). completions t (take (r .consumed) (entries (drop (12 * k) trace)))) (v .state-is))
-            ∙ sym (completions-more s (take k es) (take (r .consumed) (entries (drop (12 * k) trace)))) ∙ ap (completions s) all;
-        history = at;
-        onward = next-consumes inside at;
+        state-is = fed .state-is
+            ∙ ap (λ (u : State). after u (take n (entries (left k)))) (v .state-is)
+            ∙ sym (after-more s (take k es) (take n (entries (left k))))
+            ∙ ap (after s) all;
+        done-is = ap (λ (l : List Answer). l ++ tells r) (v .done-is)
+            ∙ ap (λ (l : List Answer). answers s (take k es) ++ l) (fed .answers-are)
+            ∙ ap (λ (u : State). answers s (take k es) ++ answers u (take n (entries (left k)))) (v .state-is)
+            ∙ sym (answers-more s (take k es) (take n (entries (left k))))
+            ∙ ap (answers s) all;
+        history = (
+          qs ++ take (r .consumed) (entries (left k)),
+          at,
+          call-run (v .history .1) (left k) (left-whole k (v .inside)) r x′ y′ e
+              ∙ run-alike qs (ps ++ take k es) (take n (entries (left k))) (v .history .2)
+              ∙ ap run (append-assoc ps (take k es) (take n (entries (left k))) ∙ ap (λ (l : List Page). ps ++ l) all),
+        );
+        onward = λ less r′ x″ y″ f. call-onward at (left (k + n)) (left-whole (k + n) inside) r′ x″ y″ f (omega (arith, less, left-many (k + n) inside));
       }
 
 pub trace-walked : TraceWalked
-trace-walked trace c h m ps k done d x y j w = walks trace c h m ps j w
+trace-walked trace whole c h m ps j k done d x y w = walks trace whole c h m ps j w
+
+-- The example: each of the three calls computes.
+pub walk-example : WalkExample
+unfolding feedAll feedEach feed offered used changed answerAt refusal small entriesFrom entryAt
+walk-example =
+    goes-on
+    (goes-on (goes-on begins (record { collector = sevenAt 1; answer = Nothing; consumed = 1 }) (replicate 540 0) (replicate 2160 0) refl)
+    (record { collector = sevenAt 1; answer = Refused 2; consumed = 0 }) (replicate 540 0) (replicate 2160 0) refl)
+    (record { collector = sevenAt 2; answer = Nothing; consumed = 1 }) (replicate 540 0) (replicate 2160 0) refl

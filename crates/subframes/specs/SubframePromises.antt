@@ -75,4 +75,6 @@ ViewSubframe c hkroot mack m satellite r = r ≡ shown (bufferOf m hkroot mack) 
 
 -- "An HKROOT message is also handed over whole, as its 15 bytes, under the same rule."
 abbrev pub HkrootMessageRead : CollectSubframe → List ℕ → List ℕ → ℕ → HkrootMessage → Type 0
-HkrootMessageRead c hkroot mack satellite r = _≡_ {A = Copied} (record { answer = meaning-shown (r .answer); bytes = r .bytes }) (copied 15 hkroot (view (state c hkroot mack) 15 satellite))
+HkrootMessageRead c hkroot mack satellite r =
+    _≡_ {A = Copied} (record { answer = meaning-shown (r .answer); bytes = r .bytes })
+    (copied 15 hkroot (view (state c hkroot mack) 15 satellite))

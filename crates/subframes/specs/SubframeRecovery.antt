@@ -1,6 +1,8 @@
--- Demand 3, for subframes: "A collector, new at the start, recovers. Let pages be lost, doubled, reordered or altered, the clock jump and calls be refused, with record and memory changed by these calls only. A run is the
--- admitted pages from the first, or from one whose week or subframe differs from the one before, up to the next such change. In it all answers and completed messages are those a new collector gives. A satellite's message pair
--- comes out exactly when its pages in the run first contain words 0 to 14 in that order, built from the earliest such choice." Here of the definition `feed`; of the code in `SubframeHistory.antt`.
+-- Demand 3, for subframes: "A collector, new at the start, recovers. Let pages be lost, doubled, reordered or altered, the clock jump and calls be refused,
+-- with record and memory changed by these calls only. A run is the admitted pages from the first, or from one whose week or subframe differs from the one
+-- before, up to the next such change. In it all answers and completed messages are those a new collector gives. A satellite's message pair comes out
+-- exactly when its pages in the run first contain words 0 to 14 in that order, built from the earliest such choice." Here of the definition `feed`; of the
+-- code in `SubframeHistory.antt`.
 -- Assumes nothing.
 use Prim.Native.Nat.{ℕ, zero, suc, _-_, _*_, _≤_}
 use mathlib.Core.List.{List, [], _∷_, _++_}
@@ -15,7 +17,8 @@ use Rattle.subframes.specs.Subframe.{State, new, Page, Fed, wordOf, subf
 use Rattle.runs.specs.Runs.{afterAll, goesOn, runBefore, runWith, runOf}
 use Rattle.runs.specs.Rising.{Choice, Earliest}
 
--- A call is any page bytes, satellite, week and time. What it can be refused for after `new`, with 540 and 2,160 lent bytes, whatever came before: 12 never comes up.
+-- A call is any page bytes, satellite, week and time. What it can be refused for after `new`, with 540 and 2,160 lent bytes, whatever came before: 12 never
+-- comes up.
 abbrev pub callChecks : Page → List Check
 callChecks p = 1 when not (eqb (length (p .bytes)) 5) ∷ svnGstChecks (p .satellite) (p .week) (p .time)
 
@@ -81,15 +84,18 @@ pub record Alike (f g : Fed) : Type 0 where
   pub hkroot-is : (satellite : ℕ) → shown (f .state .hkroot) (view (f .state) 15 satellite) ≡ shown (g .state .hkroot) (view (g .state) 15 satellite)
   pub mack-is : (satellite : ℕ) → shown (f .state .mack) (view (f .state) 60 satellite) ≡ shown (g .state .mack) (view (g .state) 60 satellite)
 
--- What the viewer shows of a satellite at the end of a run: its pair where its words are there, and nothing else. (`shown` are the bytes of its place: `message`.)
+-- What the viewer shows of a satellite at the end of a run: its pair where its words are there, and nothing else. (`shown` are the bytes of its place,
+-- `message`.)
 pub record Viewed (s : State) (r : List Page) (satellite : ℕ) : Type 0 where
   pub pair : Words satellite r → Built s satellite r × ((size : ℕ) → view s size satellite ≡ gives (size * (satellite - 1) ∷ size ∷ []))
   pub none : (Words satellite r → ⊥) → (size : ℕ) → view s size satellite ≡ nothing
 
--- What holds of a call p that gave f, where the calls before it led to the state s and left the run r. Here f is what the definition gives (`feed s p`); in `SubframeHistory.antt` it is what the code gave.
+-- What holds of a call p that gave f, where the calls before it led to the state s and left the run r. Here f is what the definition gives (`feed s p`); in
+-- `SubframeHistory.antt` it is what the code gave.
 pub record Recovers (s : State) (r : List Page) (p : Page) (f : Fed) : Type 0 where
   -- (a) in each run the answers and the completed messages are those of a new collector, with any memory, that is fed that run alone
-  pub like-new : (hkroot mack : List ℕ) → length hkroot ≡ 540 → length mack ≡ 2160 → isAdmitted p ≡ true → Alike f (feed (after (new hkroot mack) (before r p)) p)
+  pub like-new : (hkroot mack : List ℕ) → length hkroot ≡ 540 → length mack ≡ 2160 → isAdmitted p ≡ true
+      → Alike f (feed (after (new hkroot mack) (before r p)) p)
   -- (b) the pair comes out exactly when the satellite's pages in the run contain words 0 to 14 in that order, and had not before; else nothing does
   pub exactly-when : isAdmitted p ≡ true → ComesOut (f .answer) p ↔ (Words (p .satellite) (grown r p) × (Words (p .satellite) (before r p) → ⊥))
   pub else-nothing : isAdmitted p ≡ true → (ComesOut (f .answer) p → ⊥) → f .answer ≡ nothing
@@ -104,8 +110,12 @@ pub record Recovers (s : State) (r : List Page) (p : Page) (f : Fed) : Type 0 wh
 
 -- From a new record and any 540 and 2,160 bytes, after any calls. (Any other number of lent bytes is refused with 1 at every call: `feed`.)
 abbrev pub SubframesRecover : Type 0
-SubframesRecover = (hkroot mack : List ℕ) → length hkroot ≡ 540 → length mack ≡ 2160 → (ps : List Page) (p : Page) → Recovers (after (new hkroot mack) ps) (run ps) p (feed (after (new hkroot mack) ps) p)
+SubframesRecover =
+    (hkroot mack : List ℕ) → length hkroot ≡ 540 → length mack ≡ 2160 → (ps : List Page) (p : Page)
+    → Recovers (after (new hkroot mack) ps) (run ps) p (feed (after (new hkroot mack) ps) p)
 
 -- Between the calls, and also after refused ones: the viewer shows of each satellite what the last run has.
 abbrev pub SubframesShow : Type 0
-SubframesShow = (hkroot mack : List ℕ) → length hkroot ≡ 540 → length mack ≡ 2160 → (ps : List Page) (satellite : ℕ) → 1 ≤ satellite → satellite ≤ 36 → Viewed (after (new hkroot mack) ps) (run ps) satellite
+SubframesShow =
+    (hkroot mack : List ℕ) → length hkroot ≡ 540 → length mack ≡ 2160 → (ps : List Page) (satellite : ℕ) → 1 ≤ satellite → satellite ≤ 36
+    → Viewed (after (new hkroot mack) ps) (run ps) satellite

@@ -10,8 +10,8 @@ ghost use Prim.Native.Nat.{_+_, _*_, _≤_, _<_};
 ghost use lib.ListN.{length, take, drop};
 ghost use Rattle.layouts.specs.Answer.{shown as shownOf, refusal as refusalOf};
 ghost use Rattle.subframes.specs.Subframe.{small, isUsed, rangeChecks, recordChecks, viewChecks, askChecks, feedChecks};
-ghost use Rattle.subframes.specs.PageInner.{answerOf};
-ghost use Rattle.subframes.specs.SubframeInner.{Inside, Joined, eightOf};
+ghost use Rattle.subframes.specs.inner.Page.{answerOf};
+ghost use Rattle.subframes.specs.inner.Subframe.{Inside, Joined, eightOf};
 ghost use Rattle.subframes.specs.SubframePromises.{state, call, meaning-subframe, meaning-shown, sizeOf};
 ghost use Rattle.subframes.specs.SubframePromises.{NewSubframe, TakeWord, FeedSubframe, IsUsed};
 ghost use Rattle.subframes.specs.SubframePromises.{ViewSubframeShown, ViewSubframe, HkrootMessageRead};
@@ -110,7 +110,8 @@ pub fn new() -> CollectSubframe
     }
 }
 
-// Four counts as one number. By numbers of eight counts and not one by one, `all_small` reads the record as it was written: a load across two stores waits for both.
+// Four counts as one number. By numbers of eight counts and not one by one, `all_small` reads the record as it was written: a load across two stores waits
+// for both.
 fn joined(a: u8, b: u8, c: u8, d: u8) -> u64
     ensures { λ r. ⌜ Joined a b c d r ⌝ }
 {
@@ -231,7 +232,8 @@ pub fn feed(
     week: u16,
     time: u32,
 ) -> SubframeFed
-    ensures { λ r. ⌜ FeedSubframe collector (now (hkroot .entry)) (now (mack .entry)) (call (now (page .entry)) satellite week time) r (now (hkroot .exit)) (now (mack .exit)) ⌝ }
+    ensures { λ r. ⌜ FeedSubframe collector (now (hkroot .entry)) (now (mack .entry)) (call (now (page .entry)) satellite week time) r
+        (now (hkroot .exit)) (now (mack .exit)) ⌝ }
 {
     let refusal = refuses(collector, hkroot, mack, page, satellite, week, time);
     if refusal != 0 {
@@ -317,7 +319,8 @@ fn message_bytes(message: Message) -> usize
     }
 }
 
-// Where the satellite's message lies, or nothing while its words have not all come. Refuses 1 for lent bytes other than 540 and 2,160, 12 for the record, 2 for the satellite.
+// Where the satellite's message lies, or nothing while its words have not all come.
+// Refuses 1 for lent bytes other than 540 and 2,160, 12 for the record, 2 for the satellite.
 pub fn view_shown(
     collector: CollectSubframe,
     hkroot: &[u8],

@@ -16,8 +16,8 @@ ghost use Rattle.subframes.specs.Subframe.{recordChecks};
 ghost use Rattle.subframes.specs.SubframePromises.{state, meaning-subframe};
 ghost use Rattle.subframes.specs.Trace.{entryAt, entries as entriesOf, feedEach, traceChecks};
 ghost use Rattle.subframes.specs.TracePromises.{outcome-all, FeedAll};
-ghost use Rattle.subframes.specs.TraceInner.{completesOf, endsWith, fedOf};
-ghost use Rattle.subframes.specs.PageInner.{pageOf};
+ghost use Rattle.subframes.specs.inner.Trace.{completesOf, endsWith, fedOf};
+ghost use Rattle.subframes.specs.inner.Page.{pageOf};
 
 pub struct TraceFed {
     pub collector: CollectSubframe,
@@ -108,7 +108,8 @@ fn feed_entries(
     trace: &[u8],
 ) -> TraceFed
     requires { ⌜ refusalOf (recordChecks (state collector (now hkroot) (now mack))) ≡ 0 ⌝ }
-    ensures { λ r. ⌜ outcome-all r (now (hkroot .exit)) (now (mack .exit)) ≡ feedEach 0 (state collector (now (hkroot .entry)) (now (mack .entry))) (entriesOf (now (trace .entry))) ⌝ }
+    ensures { λ r. ⌜ outcome-all r (now (hkroot .exit)) (now (mack .exit))
+        ≡ feedEach 0 (state collector (now (hkroot .entry)) (now (mack .entry))) (entriesOf (now (trace .entry))) ⌝ }
 {
     let many = trace.len() / 12;
     let mut week = collector.week;
@@ -146,8 +147,9 @@ fn trace_refuses(collector: CollectSubframe, hkroot: &[u8], mack: &[u8], trace: 
     subframe::record_refuses(collector, hkroot, mack)
 }
 
-// Feeds entries from the front until one completes a subframe, the trace ends, or before one that would be refused; tells how many it consumed, and the last answer.
-// Refuses 1 for lent bytes other than 540 and 2,160 or a trace that is not whole entries, 12 for the record, 2, 3, 4 for the first entry's satellite, week and time.
+// Feeds entries from the front until one completes a subframe, the trace ends, or before one that would be refused; tells how many it consumed, and the last
+// answer. Refuses 1 for lent bytes other than 540 and 2,160 or a trace that is not whole entries, 12 for the record, 2, 3, 4 for the first entry's satellite,
+// week and time.
 pub fn feed_all(
     collector: CollectSubframe,
     hkroot: &mut [u8],

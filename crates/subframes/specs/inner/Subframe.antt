@@ -1,4 +1,4 @@
--- What private functions of `subframe` need and do. No promise of a public function cites this file.
+-- What private functions of `subframe` need and do.
 -- Assumes nothing.
 use Prim.Native.Nat.{ℕ, _+_, _*_, _≤_, _<_}
 use mathlib.Core.Path.{_≡_}
@@ -27,4 +27,6 @@ pub record Joined (a b c d r : ℕ) : Type 0 where
 
 -- eight elements from place i on
 abbrev pub eightOf : List ℕ → ℕ → List ℕ
-eightOf l i = getD l i 0 ∷ getD l (i + 1) 0 ∷ getD l (i + 2) 0 ∷ getD l (i + 3) 0 ∷ getD l (i + 4) 0 ∷ getD l (i + 5) 0 ∷ getD l (i + 6) 0 ∷ getD l (i + 7) 0 ∷ []
+eightOf l i =
+    getD l i 0 ∷ getD l (i + 1) 0 ∷ getD l (i + 2) 0 ∷ getD l (i + 3) 0 ∷
+    getD l (i + 4) 0 ∷ getD l (i + 5) 0 ∷ getD l (i + 6) 0 ∷ getD l (i + 7) 0 ∷ []

@@ -1,11 +1,11 @@
--- What private functions of `trace` need and do. No promise of a public function cites this file.
+-- What private functions of `trace` need and do.
 -- Assumes nothing.
 use Prim.Native.Nat.{ℕ}
 use mathlib.Core.List.{List}
 use mathlib.Core.Bool.{Bool, true, false, cond}
 use lib.Dec.{eqb}
 use Rattle.layouts.specs.Answer.{Answer, refused, nothing}
-use Rattle.subframes.specs.PageInner.{stateOf}
+use Rattle.subframes.specs.inner.Page.{stateOf}
 use Rattle.subframes.specs.Trace.{FedMany}
 use Rattle.subframes.specs.declared.page.PageTaken.{PageTaken}
 use Rattle.subframes.specs.declared.page.PageTaken.the-variants.{Unused, Used, Completes}

@@ -1,4 +1,4 @@
--- What functions of `page` need and do. No promise of a public function cites this file.
+-- What functions of `page` need and do.
 -- Assumes nothing.
 use Prim.Native.Nat.{ℕ, _*_}
 use mathlib.Core.Path.{_≡_}
@@ -33,10 +33,15 @@ usedOf Completes = true
 
 -- a page at lent counts, in any week and subframe
 pub record Offered (counts hkroot mack bytes : List ℕ) (i word : ℕ) (r : PageTaken) (counts′ hkroot′ mack′ : List ℕ) : Type 0 where
-  pub fed : (week subframe : ℕ) → _≡_ {A = Fed} (record { state = stateOf week subframe counts′ hkroot′ mack′; answer = answerOf r week subframe }) (offered (stateOf week subframe counts hkroot mack) bytes i word)
+  pub fed : (week subframe : ℕ)
+      → _≡_ {A = Fed} (record { state = stateOf week subframe counts′ hkroot′ mack′; answer = answerOf r week subframe })
+      (offered (stateOf week subframe counts hkroot mack) bytes i word)
   pub is-used : usedOf r ≡ eqb word (getD counts i 0)
 
 -- an admitted page at lent counts: what `feed` makes of it, and whether it was used
 pub record PageFed (s : State) (p : Page) (r : PageTaken) (counts hkroot mack : List ℕ) : Type 0 where
-  pub fed : _≡_ {A = Fed} (record { state = stateOf (p .week) (subframeOf (p .time)) counts hkroot mack; answer = answerOf r (p .week) (subframeOf (p .time)) }) (feed s p)
+  pub fed :
+      _≡_ {A = Fed}
+      (record { state = stateOf (p .week) (subframeOf (p .time)) counts hkroot mack; answer = answerOf r (p .week) (subframeOf (p .time)) })
+      (feed s p)
   pub is-used : usedOf r ≡ isUsed s p
