@@ -10,6 +10,7 @@ use native.Mathlib.Omega.{arith}
 use lib.Dec.{ltb, eqb}
 use lib.ListN.{length, getD, set, replicate, take}
 use borrow.Author.Tests.{eqb-true, eqb-false, lt-ltb, le-ltb, eq-eqb, ne-eqb, not-true, not-false}
+use Rattle.layouts.specs.Lists.{put, all}
 use Rattle.layouts.specs.Answer.{Answer, refused, nothing, gives, refusal, shown}
 use Rattle.layouts.specs.Bits.{Field, the, value}
 use Rattle.layouts.specs.Sizes.{size, krootBlocks, pkrBlocks, readSize}
@@ -32,7 +33,7 @@ use Rattle.dsms.specs.declared.dsm.DsmShown.{DsmShown}
 use Rattle.dsms.specs.declared.dsm.DsmShown.the-variants.{Shown, Nothing as NothingShown, Refused as NotShown}
 use Rattle.dsms.specs.DsmPromises.{state, meaning-dsm, meaning-shown}
 use Rattle.dsms.specs.declared.dsm.CollectDsm.{CollectDsm}
-use Rattle.dsms.specs.Dsm.{State, Fed, idOf, blockOf, feedChecks, fresh, begun, stored, put, krootCount, pkrCount, counted, count, allHeld}
+use Rattle.dsms.specs.Dsm.{State, Fed, idOf, blockOf, feedChecks, fresh, begun, stored, krootCount, pkrCount, counted, count, allHeld}
 use Rattle.dsms.specs.Dsm.{completed, finished, taken, feed, view}
 
 -- The refusals.
@@ -57,17 +58,17 @@ module _ (id : ℕ) (m b : List ℕ) where
 
 -- A change of ID.
 module _ (s : State) (i : ℕ) where
-  pub begun-first : not (s .came) ≡ true → fresh s i ≡ begun s i
+  pub begun-first : s .came ≡ false → fresh s i ≡ begun s i
   unfolding begun
-  begun-first h = rw (not-true (s .came) h)
+  begun-first h = rw h
 
-  pub begun-other : not (s .came) ≡ false → (s .id ≡ i → ⊥) → fresh s i ≡ begun s i
+  pub begun-other : s .came ≡ true → eqb (s .id) i ≡ false → fresh s i ≡ begun s i
   unfolding begun
-  begun-other h ne = rw (not-false (s .came) h, ne-eqb (s .id) i ne)
+  begun-other h ne = rw (h, ne)
 
-  pub begun-same : not (s .came) ≡ false → s .id ≡ i → s ≡ begun s i
+  pub begun-same : s .came ≡ true → eqb (s .id) i ≡ true → s ≡ begun s i
   unfolding begun
-  begun-same h e = rw (not-false (s .came) h, eq-eqb (s .id) i e)
+  begun-same h e = let q : (s .came && eqb (s .id) i) ≡ true = rw (h, e) in sym (ap (λ (b : Bool). cond b s (fresh s i)) q)
 
 -- A count, by the reader of `layouts`.
 size-given : (f : Field) (g : ℕ → ℕ) (m : List ℕ) {x : Number} {n : ℕ} → meaning-number x ≡ readSize f g m → x ≡ Value n → n ≡ g (value f m)
@@ -127,16 +128,16 @@ counted-few t m = go (eqb t 0)
 
 -- The blocks that are held.
 pub held-more : (held : List Bool) (i : ℕ) → allHeld held i ≡ true → not (getD held i false) ≡ false → allHeld held (i + 1) ≡ true
-unfolding allHeld
+unfolding all
 held-more held i e h = rw (add-one i, e, not-false (getD held i false) h)
 
 false-stays : (held : List Bool) (i k : ℕ) → allHeld held i ≡ false → allHeld held (k + i) ≡ false
-unfolding allHeld
+unfolding all
 false-stays held i zero e = rw (zero-add i) e
 false-stays held i (suc k) e = rw (suc-add k i, false-stays held i k e)
 
 pub not-held : (held : List Bool) (i n : ℕ) → i < n → allHeld held i ≡ true → not (getD held i false) ≡ true → false ≡ allHeld held n
-unfolding allHeld
+unfolding all
 not-held held i n h e g =
     let here : allHeld held (suc i) ≡ false = rw (e, not-true (getD held i false) g) in
     let far : (n - suc i) + suc i ≡ n = omega arith in
@@ -170,7 +171,7 @@ pub stored-held : (s : State) (n : ℕ) (b : List ℕ) → getD (s .held) n fals
 unfolding stored
 stored-held s n b h = rw h
 
-pub stored-new : (s : State) (n : ℕ) (b : List ℕ) {m : List ℕ} → getD (s .held) n false ≡ false → m ≡ put (s .memory) n b
+pub stored-new : (s : State) (n : ℕ) (b : List ℕ) {m : List ℕ} → getD (s .held) n false ≡ false → m ≡ put (s .memory) (13 * n) 13 b
     → _≡_ {A = State} (record { id = s .id; came = s .came; held = set (s .held) n true; done = s .done; memory = m }) (stored s n b)
 unfolding stored
 stored-new s n b h e = rw (h, e)
@@ -280,7 +281,7 @@ shown-from-0 : (m : List ℕ) {a : Answer} {n : ℕ} → gives (0 ∷ n ∷ []) 
 unfolding shown
 shown-from-0 m e = rw (← e)
 
-not-shown : (m : List ℕ) {a : Answer} {n : ℕ} → refused n ≡ a → [] ≡ shown m a
+pub not-shown : (m : List ℕ) {a : Answer} {n : ℕ} → refused n ≡ a → [] ≡ shown m a
 unfolding shown
 not-shown m e = rw (← e)
 

@@ -11,15 +11,16 @@ use native.Mathlib.Nat.{le-of-suc-le-suc}
 use lib.ListN.{length, getD, set, take, replicate, length-set, getD-replicate}
 use lib.Seq.{getD-set-same, getD-set-other, take-add}
 use borrow.Author.Tests.{eqb-true, eqb-false, eq-eqb, ne-eqb, not-true}
+use Rattle.layouts.specs.Lists.{all}
 use Rattle.layouts.specs.Answer.{Answer, refused, nothing, gives, shown}
 use Rattle.layouts.specs.DsmHeader.{dsmType}
-use Rattle.dsms.specs.Dsm.{State, new, Fed, begun, fresh, put, copied, stored, counted, count, allHeld, whole, completed, finished, taken, view}
+use Rattle.dsms.specs.Dsm.{State, new, Fed, begun, fresh, copied, stored, counted, count, allHeld, whole, completed, finished, taken, view}
 use Rattle.dsms.specs.DsmRecovery.{Call, idIn, blockIn, isAdmitted, fedTo, after, sameId, before, grown, run, fed, firstCopy, counts, allFed, isWhole}
 use Rattle.dsms.specs.DsmRecovery.{firstCopies, dsmOf, comesOut, inView, bytesInView, Alike, DsmRecovers, runId, Viewed, DsmShows}
 use Rattle.runs.specs.Runs.{goesOn, runFrom}
 use Rattle.runs.proofs.Runs.{goes-on, before-twice, run-before, run-from, kept-by-all}
 use Rattle.runs.proofs.Basics.{and-true}
-use Rattle.dsms.proofs.DsmRun.{fed-more, copy-kept, copy-new, copy-none, same-bool, yes-or, or-no, blockAt, put-long, block-put, block-other}
+use Rattle.dsms.proofs.DsmRun.{fed-more, copy-kept, copy-new, copy-none, same-bool, yes-or, or-no, blockAt, placed, put-long, block-put, block-other}
 use Rattle.dsms.proofs.DsmRun.{counted-byte, first-byte, counted-none, fed-stays, nonzero, whole-parts, counts-stay, whole-stays, id-of-last}
 use Rattle.dsms.proofs.Blocks.{counted-few, header-id, header-block, other-block, admitted, feed-refused, feed-taken, begun-same, begun-other}
 use Rattle.dsms.proofs.Blocks.{view-given, view-undone, nothing-shown}
@@ -45,7 +46,7 @@ record Flags (i : ℕ) (s : State) (r : List Call) : Type 0 where
   copy : (n : ℕ) → n < 16 → getD (s .held) n false ≡ true → blockAt n (s .memory) ≡ firstCopy n r
 
 held-below : (held : List Bool) (n : ℕ) → allHeld held n ≡ true → (k : ℕ) → k < n → getD held k false ≡ true
-unfolding allHeld
+unfolding all
 held-below held zero h k l = absurd (omega arith)
 held-below held (suc n) h k l = go (eqb k n) refl (held-below held n (and-true (allHeld held n) (getD held n false) h .0))
   where
@@ -54,12 +55,12 @@ held-below held (suc n) h k l = go (eqb k n) refl (held-below held n (and-true (
     go false e ih = ih k (lt-of-le-ne (le-of-suc-le-suc l) (eqb-false k n e))
 
 first-missing : (held : List Bool) (n : ℕ) → getD held 0 false ≡ false → allHeld held (suc n) ≡ false
-unfolding allHeld
+unfolding all
 first-missing held zero h = rw h
 first-missing held (suc n) h = rw (first-missing held n h)
 
 held-fed : (i : ℕ) (s : State) (r : List Call) → Flags i s r → (n : ℕ) → n ≤ 16 → allHeld (s .held) n ≡ allFed n r
-unfolding allHeld allFed
+unfolding all
 held-fed i s r f zero h = refl
 held-fed i s r f (suc n) h = rw (held-fed i s r f n (omega arith), f .flag n h)
 
@@ -129,7 +130,7 @@ module _ (i : ℕ) (s : State) (r : List Call) (k : Core i s r) (c : Call) (lb :
           ∙ sym (fed-more n r c ∙ rw (ne-eqb (blockIn c) n (λ z. ne (sym z))) (or-no (fed n r)))
 
       copy : (n : ℕ) → n < 16 → getD (set (s .held) (blockIn c) true) n false ≡ true → fed (blockIn c) r ≡ false → (x : Bool) → eqb n (blockIn c) ≡ x
-          → blockAt n (put (s .memory) (blockIn c) (c .block)) ≡ firstCopy n (r ++ (c ∷ []))
+          → blockAt n (placed (s .memory) (blockIn c) (c .block)) ≡ firstCopy n (r ++ (c ∷ []))
       copy n h e unknown true ex =
           let same : n ≡ blockIn c = eqb-true n (blockIn c) ex in
           rw same (block-put (s .memory) (blockIn c) (c .block) (k .long) lb (header-block (c .header)) ∙ sym (copy-new (blockIn c) r c unknown refl))
@@ -264,15 +265,15 @@ next-run i s r came k d e = go (eqb i (idIn d)) refl
   where
     go : (b : Bool) → eqb i (idIn d) ≡ b → Core (idIn d) (begun s (idIn d)) (before r d)
     go true h =
-        let same : i ≡ idIn d = eqb-true i (idIn d) h in
+        let same : eqb (s .id) (idIn d) ≡ true = rw (k .id-is) h in
         let here : before r d ≡ r = rw (e, h) in
         subst⁻¹ (λ (l : List Call). Core (idIn d) (begun s (idIn d)) l) here
-        (subst (λ (t : State). Core (idIn d) t r) (begun-same s (idIn d) (rw came) (k .id-is ∙ same)) (subst (λ (j : ℕ). Core j s r) same k))
+        (subst (λ (t : State). Core (idIn d) t r) (begun-same s (idIn d) came same) (subst (λ (j : ℕ). Core j s r) (eqb-true i (idIn d) h) k))
     go false h =
+        let other : eqb (s .id) (idIn d) ≡ false = rw (k .id-is) h in
         let none : before r d ≡ [] = rw (e, h) in
         subst⁻¹ (λ (l : List Call). Core (idIn d) (begun s (idIn d)) l) none
-        (subst (λ (t : State). Core (idIn d) t []) (begun-other s (idIn d) (rw came) (λ z. eqb-false i (idIn d) h (sym (k .id-is) ∙ z)))
-        (fresh-core (idIn d) s (k .long)))
+        (subst (λ (t : State). Core (idIn d) t []) (begun-other s (idIn d) came other) (fresh-core (idIn d) s (k .long)))
 
 begun-came : (s : State) (i : ℕ) → begun s i .came ≡ true
 unfolding begun
@@ -379,7 +380,7 @@ module _ (i : ℕ) (s : State) (r : List Call) (k : Core i s r) where
       go false w = sym (view-undone s (k .long) (rw (k .id-is) h) (rw (k .done-is, w)))
 
   copies : (n : ℕ) → n ≤ 16 → allHeld (s .held) n ≡ true → take (13 * n) (s .memory) ≡ firstCopies n r
-  unfolding allHeld firstCopies
+  unfolding all firstCopies
   copies zero l h = refl
   copies (suc n) l h =
       let p = and-true (allHeld (s .held) n) (getD (s .held) n false) h in

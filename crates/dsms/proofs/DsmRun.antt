@@ -9,13 +9,14 @@ use lib.Dec.{leb, eqb}
 use lib.ListN.{length, getD, take, drop, length-append, length-drop, List·getD-append}
 use lib.Seq.{length-take-le, getD-take, getD-drop, getD-append-add, ext-getD}
 use borrow.Author.Tests.{leb-true, leb-false, eq-eqb}
+use Rattle.layouts.specs.Lists.{put, all}
 use Rattle.layouts.specs.Bits.{the, value, field, bit}
 use Rattle.layouts.specs.Sizes.{size, krootBlocks, pkrBlocks}
 use Rattle.layouts.specs.DsmHeader.{dsmType}
 use Rattle.layouts.specs.DsmKroot.{krootLayout}
 use Rattle.layouts.specs.DsmPkr.{pkrLayout}
 use Rattle.layouts.proofs.Fields.{field-in-byte}
-use Rattle.dsms.specs.Dsm.{put, krootCount, pkrCount, counted}
+use Rattle.dsms.specs.Dsm.{krootCount, pkrCount, counted}
 use Rattle.dsms.specs.DsmRecovery.{Call, idIn, blockIn, fed, firstCopy, counts, allFed, isWhole, runId}
 use Rattle.runs.proofs.Basics.{and-true}
 
@@ -80,6 +81,9 @@ or-no false = refl
 abbrev pub blockAt : ℕ → List ℕ → List ℕ
 blockAt n m = take 13 (drop (13 * n) m)
 
+abbrev pub placed : List ℕ → ℕ → List ℕ → List ℕ
+placed m n block = put m (13 * n) 13 block
+
 pub block-long : (n : ℕ) (m : List ℕ) → length m ≡ 208 → n < 16 → length (blockAt n m) ≡ 13
 block-long n m l h = length-take-le 13 (drop (13 * n) m) (rw length-drop (omega arith))
 
@@ -90,40 +94,40 @@ module _ (m : List ℕ) (b : ℕ) (block : List ℕ) (lm : length m ≡ 208) (lb
   front-long : length (take (13 * b) m) ≡ 13 * b
   front-long = length-take-le (13 * b) m (omega arith)
 
-  pub put-long : length (put m b block) ≡ 208
+  pub put-long : length (placed m b block) ≡ 208
   put-long = rw (length-append, length-append, front-long, length-drop) (omega arith)
 
-  put-before : (j : ℕ) → j < 13 * b → getD (put m b block) j 0 ≡ getD m j 0
+  put-before : (j : ℕ) → j < 13 * b → getD (placed m b block) j 0 ≡ getD m j 0
   put-before j h =
       ap (λ (l : List ℕ). getD l j 0) (append-assoc (take (13 * b) m) block (drop (13 * b + 13) m))
       ∙ List·getD-append (take (13 * b) m) (block ++ drop (13 * b + 13) m) 0 j (rw front-long h) ∙ getD-take (13 * b) m j 0 h
 
-  put-at : (k : ℕ) → k < 13 → getD (put m b block) (13 * b + k) 0 ≡ getD block k 0
+  put-at : (k : ℕ) → k < 13 → getD (placed m b block) (13 * b + k) 0 ≡ getD block k 0
   put-at k h =
       ap (λ (l : List ℕ). getD l (13 * b + k) 0) (append-assoc (take (13 * b) m) block (drop (13 * b + 13) m))
       ∙ ap (λ (j : ℕ). getD (take (13 * b) m ++ (block ++ drop (13 * b + 13) m)) (j + k) 0) (sym front-long)
       ∙ getD-append-add (take (13 * b) m) (block ++ drop (13 * b + 13) m) k 0
       ∙ List·getD-append block (drop (13 * b + 13) m) 0 k (rw lb h)
 
-  put-after : (k : ℕ) → getD (put m b block) (13 * b + 13 + k) 0 ≡ getD m (13 * b + 13 + k) 0
+  put-after : (k : ℕ) → getD (placed m b block) (13 * b + 13 + k) 0 ≡ getD m (13 * b + 13 + k) 0
   put-after k =
       let ends : 13 * b + 13 ≡ length (take (13 * b) m ++ block) = sym (length-append (take (13 * b) m) block ∙ rw (front-long, lb)) in
-      ap (λ (j : ℕ). getD (put m b block) (j + k) 0) ends ∙ getD-append-add (take (13 * b) m ++ block) (drop (13 * b + 13) m) k 0
+      ap (λ (j : ℕ). getD (placed m b block) (j + k) 0) ends ∙ getD-append-add (take (13 * b) m ++ block) (drop (13 * b + 13) m) k 0
       ∙ getD-drop (13 * b + 13) m k 0
 
-  pub block-put : blockAt b (put m b block) ≡ block
+  pub block-put : blockAt b (placed m b block) ≡ block
   block-put =
-      ext-getD 0 (blockAt b (put m b block)) block (block-long b (put m b block) put-long hb ∙ sym lb)
-      (λ k h. let h : k < 13 = rw (block-long b (put m b block) put-long hb) at h in block-byte b (put m b block) k h ∙ put-at k h)
+      ext-getD 0 (blockAt b (placed m b block)) block (block-long b (placed m b block) put-long hb ∙ sym lb)
+      (λ k h. let h : k < 13 = rw (block-long b (placed m b block) put-long hb) at h in block-byte b (placed m b block) k h ∙ put-at k h)
 
-  pub block-other : (n : ℕ) → n < 16 → (n ≡ b → ⊥) → blockAt n (put m b block) ≡ blockAt n m
+  pub block-other : (n : ℕ) → n < 16 → (n ≡ b → ⊥) → blockAt n (placed m b block) ≡ blockAt n m
   block-other n hn ne =
-      ext-getD 0 (blockAt n (put m b block)) (blockAt n m) (block-long n (put m b block) put-long hn ∙ sym (block-long n m lm hn))
+      ext-getD 0 (blockAt n (placed m b block)) (blockAt n m) (block-long n (placed m b block) put-long hn ∙ sym (block-long n m lm hn))
       (λ k h.
-      let h : k < 13 = rw (block-long n (put m b block) put-long hn) at h in
-      block-byte n (put m b block) k h ∙ go k h (leb (13 * n + k) (13 * b)) refl ∙ sym (block-byte n m k h))
+      let h : k < 13 = rw (block-long n (placed m b block) put-long hn) at h in
+      block-byte n (placed m b block) k h ∙ go k h (leb (13 * n + k) (13 * b)) refl ∙ sym (block-byte n m k h))
     where
-      go : (k : ℕ) → k < 13 → (x : Bool) → leb (13 * n + k) (13 * b) ≡ x → getD (put m b block) (13 * n + k) 0 ≡ getD m (13 * n + k) 0
+      go : (k : ℕ) → k < 13 → (x : Bool) → leb (13 * n + k) (13 * b) ≡ x → getD (placed m b block) (13 * n + k) 0 ≡ getD m (13 * n + k) 0
       go k h true e = put-before (13 * n + k) (omega (arith, leb-true (13 * n + k) (13 * b) e))
       go k h false e =
           let far : 13 * n + k ≡ 13 * b + 13 + (13 * n + k - (13 * b + 13)) = omega (arith, leb-false (13 * n + k) (13 * b) e) in
@@ -154,12 +158,12 @@ pub fed-stays : (n : ℕ) (r : List Call) (c : Call) → fed n r ≡ true → fe
 fed-stays n r c h = fed-more n r c ∙ rw h
 
 pub all-stays : (n : ℕ) (r : List Call) (c : Call) → allFed n r ≡ true → allFed n (r ++ (c ∷ [])) ≡ true
-unfolding allFed
+unfolding all
 all-stays zero r c h = refl
 all-stays (suc n) r c h = let p = and-true (allFed n r) (fed n r) h in rw (all-stays n r c (p .0), fed-stays n r c (p .1))
 
 pub fed-first : (n : ℕ) (r : List Call) → 0 < n → allFed n r ≡ true → fed 0 r ≡ true
-unfolding allFed
+unfolding all
 fed-first zero r l h = absurd (omega arith)
 fed-first (suc zero) r l h = and-true (allFed zero r) (fed zero r) h .1
 fed-first (suc (suc n)) r l h = fed-first (suc n) r (omega arith) (and-true (allFed (suc n) r) (fed (suc n) r) h .0)

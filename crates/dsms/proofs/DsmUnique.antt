@@ -35,20 +35,20 @@ undo-dsm Nothing = refl
 undo-dsm (Complete i Kroot n) = refl
 undo-dsm (Complete i Pkr n) = refl
 
-abbrev back-shown : Answer → DsmShown
+abbrev pub back-shown : Answer → DsmShown
 back-shown (refused n) = NotShown n
 back-shown nothing = NothingShown
 back-shown (gives []) = NothingShown
 back-shown (gives (f ∷ [])) = NothingShown
 back-shown (gives (f ∷ n ∷ l)) = Shown n
 
-undo-shown : (r : DsmShown) → back-shown (meaning-shown r) ≡ r
+pub undo-shown : (r : DsmShown) → back-shown (meaning-shown r) ≡ r
 undo-shown (Shown n) = refl
 undo-shown NothingShown = refl
 undo-shown (NotShown n) = refl
 
 -- the record is its state without the memory
-abbrev back-state : State → CollectDsm
+abbrev pub back-state : State → CollectDsm
 back-state s = record { id = s .id; came = s .came; held = s .held; done = s .done }
 
 pub new-dsm : (r s : CollectDsm) → NewDsm r → NewDsm s → r ≡ s

@@ -1,10 +1,11 @@
 -- The DSM collector: document 01, "A DSM from its blocks".
 -- Assumes nothing.
-use Prim.Native.Nat.{ℕ, zero, suc, _+_, _*_}
-use mathlib.Core.List.{List, [], _∷_, _++_}
+use Prim.Native.Nat.{ℕ, _*_}
+use mathlib.Core.List.{List, [], _∷_}
 use mathlib.Core.Bool.{Bool, true, false, cond, not, _&&_}
-use lib.ListN.{length, getD, take, drop, set, replicate}
+use lib.ListN.{length, getD, set, replicate}
 use lib.Dec.{ltb, eqb}
+use Rattle.layouts.specs.Lists.{put, all}
 use Rattle.layouts.specs.Answer.{Answer, refused, nothing, gives, Check, _when_, refusal}
 use Rattle.layouts.specs.Bits.{the, value}
 use Rattle.layouts.specs.Sizes.{size, krootBlocks, pkrBlocks}
@@ -43,14 +44,10 @@ fresh s i = record { id = i; came = true; held = replicate 16 false; done = fals
 unfoldable pub begun : State → ℕ → State
 begun s i = cond (s .came && eqb (s .id) i) s (fresh s i)
 
--- block n in its place
-abbrev pub put : List ℕ → ℕ → List ℕ → List ℕ
-put memory n block = take (13 * n) memory ++ block ++ drop (13 * n + 13) memory
-
 -- "A block not held is copied; a held one keeps its first bytes, even if the repeat differs."
 abbrev pub copied : State → ℕ → List ℕ → State
 copied s n block =
-    record { id = s .id; came = s .came; held = set (s .held) n true; done = s .done; memory = put (s .memory) n block }
+    record { id = s .id; came = s .came; held = set (s .held) n true; done = s .done; memory = put (s .memory) (13 * n) 13 block }
 
 unfoldable pub stored : State → ℕ → List ℕ → State
 stored s n block = cond (getD (s .held) n false) s (copied s n block)
@@ -69,9 +66,8 @@ abbrev pub count : State → ℕ
 count s = counted (dsmType (s .id)) (s .memory)
 
 -- the blocks below n are held
-unfoldable pub allHeld : List Bool → ℕ → Bool
-allHeld held zero = true
-allHeld held (suc n) = allHeld held n && getD held n false
+abbrev pub allHeld : List Bool → ℕ → Bool
+allHeld held n = all (λ k. getD held k false) n
 
 -- "When all counted blocks are held"; an illegal count never completes
 abbrev pub whole : State → Bool

@@ -10,6 +10,7 @@ use mathlib.Core.Bool.{Bool, true, false, cond, not, _&&_}
 use mathlib.Core.Path.{_≡_}
 use lib.ListN.{length, take}
 use lib.Dec.{eqb}
+use Rattle.layouts.specs.Lists.{all}
 use Rattle.layouts.specs.Answer.{Answer, refused, nothing, gives, shown}
 use Rattle.layouts.specs.DsmHeader.{dsmType}
 use Rattle.runs.specs.Runs.{afterAll, runBefore, runWith, runOf}
@@ -64,11 +65,10 @@ firstCopy n (c ∷ cs) = cond (eqb (blockIn c) n) (c .block) (firstCopy n cs)
 abbrev pub counts : ℕ → List Call → ℕ
 counts id r = counted (dsmType id) (firstCopy 0 r)
 
-unfoldable pub allFed : ℕ → List Call → Bool
-allFed zero r = true
-allFed (suc n) r = allFed n r && fed n r
-
 -- all counted blocks were fed
+abbrev pub allFed : ℕ → List Call → Bool
+allFed n r = all (λ k. fed k r) n
+
 abbrev pub isWhole : ℕ → List Call → Bool
 isWhole id r = not (eqb (counts id r) 0) && allFed (counts id r) r
 

@@ -1,4 +1,6 @@
+pub mod Agreed
 pub mod Dsm
+pub mod DsmHistory
 pub mod DsmPromises
 pub mod DsmRecovery
 pub mod DsmView

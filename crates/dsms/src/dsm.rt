@@ -8,9 +8,10 @@ ghost use mathlib.Core.Path.{_≡_};
 ghost use mathlib.Core.List.{List, [], _∷_};
 ghost use Prim.Native.Nat.{ℕ, _+_, _*_, _≤_, _<_};
 ghost use lib.ListN.{length};
+ghost use Rattle.layouts.specs.Lists.{put};
 ghost use Rattle.layouts.specs.Answer.{gives, refusal as refusalOf};
 ghost use Rattle.layouts.specs.Meaning.{meaning-type};
-ghost use Rattle.dsms.specs.Dsm.{feedChecks, begun, put, counted, allHeld};
+ghost use Rattle.dsms.specs.Dsm.{feedChecks, begun, counted, allHeld};
 ghost use Rattle.dsms.specs.inner.Dsm.{Stored, Finished, Taken};
 ghost use Rattle.dsms.specs.DsmPromises.{state, NewDsm, FeedDsm, ViewDsmShown, ViewDsm};
 
@@ -75,29 +76,21 @@ fn refuses(collector: CollectDsm, dsm: &[u8], block: &[u8]) -> u8
 fn begin(collector: CollectDsm, id: u8) -> CollectDsm
     ensures { λ r. ⌜ ((m : List ℕ) → state r m ≡ begun (state collector m) id) ⌝ }
 {
-    if !collector.came {
-        return CollectDsm {
-            id,
-            came: true,
-            held: [false; 16],
-            done: false,
-        };
+    if collector.came && collector.id == id {
+        return collector;
     }
-    if collector.id != id {
-        return CollectDsm {
-            id,
-            came: true,
-            held: [false; 16],
-            done: false,
-        };
+    CollectDsm {
+        id,
+        came: true,
+        held: [false; 16],
+        done: false,
     }
-    collector
 }
 
 // Block `n` goes to its place.
 fn copy_block(dsm: &mut [u8], n: usize, block: &[u8])
     requires { ⌜ (n < 16) × (length (now dsm) ≡ 208) × (length (now block) ≡ 13) ⌝ }
-    ensures { λ r. ⌜ now (dsm .exit) ≡ put (now (dsm .entry)) n (now (block .entry)) ⌝ }
+    ensures { λ r. ⌜ now (dsm .exit) ≡ put (now (dsm .entry)) (13 * n) 13 (now (block .entry)) ⌝ }
 {
     let at = 13 * n;
     let mut i = 0;

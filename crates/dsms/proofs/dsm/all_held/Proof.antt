@@ -3,6 +3,7 @@
 use mathlib.Core.Path.{_≡_, refl, sym}
 use mathlib.Core.Bool.{true}
 use Prim.Native.Nat.{_≤_, _-_}
+use Rattle.layouts.specs.Lists.{all}
 use Rattle.dsms.specs.Dsm.{allHeld}
 use native.Mathlib.Omega.{arith}
 use Rattle.dsms.proofs.Blocks.{held-more, not-held}
@@ -16,7 +17,7 @@ abbrev μ-loop : tie.MeasureT-loop
 μ-loop n held i₀ i = n - i
 
 loop-holds : tie.Need-loop-holds Inv-loop μ-loop
-unfolding allHeld
+unfolding all
 loop-holds c = (omega arith, refl)
 
 array-read-if1 : tie.Need-array-read-if1 Inv-loop μ-loop

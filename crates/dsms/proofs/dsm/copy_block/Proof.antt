@@ -7,7 +7,7 @@ use native.Mathlib.Numerals.{add-one}
 use lib.ListN.{length, length-set}
 use lib.Seq.{paste, paste-zero, paste-suc, take-all}
 use native.Mathlib.Omega.{arith}
-use Rattle.dsms.specs.Dsm.{put}
+use Rattle.layouts.specs.Lists.{put}
 use Rattle.dsms.proofs.dsm.copy_block.Statement.{statement}
 use Rattle.dsms.proofs.dsm.copy_block.Tie as tie
 
@@ -55,7 +55,7 @@ returns c =
     let a = c .before .before .args in
     let h = c .before .loop in
     let end : h .i ≡ 13 = omega arith in
-    rw end at (h .inv .2) ∙ ap (λ (l : List ℕ). put (a .dsm .now) (a .n) l) (take-all 13 (a .block .now) (omega arith))
+    rw end at (h .inv .2) ∙ ap (λ (l : List ℕ). put (a .dsm .now) (13 * a .n) 13 l) (take-all 13 (a .block .now) (omega arith))
 
 pub copy-block-spec : {M : Type 1} → statement M
 copy-block-spec =
