@@ -14,11 +14,12 @@ use Rattle.layouts.specs.Answer.{Answer, refused, nothing, gives, refusal, copi
 use Rattle.layouts.specs.Bits.{bit, field, bytesFrom}
 use Rattle.layouts.specs.Gst.{svnGstChecks}
 use Rattle.layouts.specs.InavPage.{isCounted, osnma}
+use Rattle.layouts.specs.Lists.{all}
 use Rattle.layouts.specs.Sizes.{krootBlocks}
 use Rattle.layouts.proofs.Answers.{none-fails}
 use Rattle.subframes.specs.Subframe.{feedChecks, usedAnswer, isUsed, small, State as Subframes, changed, used, offered, answerAt}
 use Rattle.subframes.specs.Subframe.{feed as feedPage, view as viewPage}
-use Rattle.dsms.specs.Dsm.{State as Dsms, begun, stored, counted as counted-blocks, allHeld, finished, taken, feed as feedBlock}
+use Rattle.dsms.specs.Dsm.{State as Dsms, begun, stored, counted as counted-blocks, finished, taken, feed as feedBlock}
 use Rattle.page_replay.specs.Replay.{Totals, State, new, Run, isTaken, one, passedOn, skipped, counted, fedPage, fed, pageStep, andThen, onward}
 use Rattle.page_replay.specs.Replay.{replayed, pagesOf, wholePages, consumed, most, areFew, replayChecks, Outcome, replay, fedHkroot, later}
 use Rattle.page_replay.specs.Pieces.{OneOfEach, AddsUp, TotalsAddUp, PagesAddUp, followedBy, SplitAnywhere, Call, answeredTo, called, calledAll}
@@ -215,7 +216,8 @@ module _ (s : State) (c : Call) where
       ap (λ (k : ℕ). replayed s (pagesOf k (c .bytes))) (sym (pages-many (min (c .budget) (wholePages (c .bytes))) (c .bytes)))
   consumes-by false = refl
 
-  pub call-consumes : record { state = answeredTo s c .state; subframes = answeredTo s c .subframes; dsms = answeredTo s c .dsms } ≡ replayed s (consumedPages s c)
+  pub call-consumes :
+      record { state = answeredTo s c .state; subframes = answeredTo s c .subframes; dsms = answeredTo s c .dsms } ≡ replayed s (consumedPages s c)
   unfolding replay
   call-consumes = consumes-by (eqb q 0)
 
@@ -392,5 +394,5 @@ totals-say-used s p e =
 pub example : Example
 unfolding
     replayed andThen pageStep isCounted skipped fed counted usedAnswer isUsed later osnma fedHkroot bit field refusal small changed used offered answerAt
-    feedPage viewPage copied begun stored counted-blocks allHeld finished taken feedBlock krootBlocks bytesFrom
+    feedPage viewPage copied begun stored counted-blocks all finished taken feedBlock krootBlocks bytesFrom
 example = (refl, refl, refl)

@@ -1,22 +1,37 @@
 -- Whatever history of calls: what the code left is one run of the definition over the pages that were consumed, and its collectors are fed pages and
 -- blocks one by one.
 -- Assumes nothing.
-use Prim.Native.Nat.{ℕ}
+use Prim.Native.Nat.{ℕ, _+_, _-_, _*_}
 use native.Mathlib.Omega.{arith}
 use native.Mathlib.Decide.{ℕ-discrete}
 use mathlib.Core.Path.{_≡_, refl, sym, ap, _∙_, subst, subst⁻¹}
 use mathlib.Core.List.{List, [], _∷_, _++_, append-nil, append-assoc}
 use mathlib.Core.Bool.{Bool, true, false, cond}
-use lib.ListN.{length}
+use lib.ListN.{length, getD, replicate}
 use lib.Dec.{eqb}
 use Rattle.layouts.specs.Answer.{Answer, refused, nothing, gives, refusal}
 use Rattle.layouts.specs.InavPage.{isCounted}
 use Rattle.runs.specs.Runs.{afterAll}
-use Rattle.subframes.specs.Subframe.{Page, State as Subframes, Fed as SubframesFed, feed as feedPage}
+use Rattle.layouts.specs.Gst.{svnGstChecks}
+use Rattle.subframes.specs.Subframe.{Page, State as Subframes, Fed as SubframesFed, new as newSubframes, wordOf, subframeOf, feedChecks, changed}
+use Rattle.subframes.specs.Subframe.{answerAt, used, offered, feed as feedPage}
+use Rattle.subframes.specs.SubframePromises.{state as subframeState, meaning-subframe, FeedSubframe}
+use Rattle.subframes.specs.SubframeHistory.{History as SubframeHistory, begun as pages-begun, called as page-by, one as page-fed}
+use Rattle.subframes.specs.declared.subframe.CollectSubframe.{CollectSubframe}
+use Rattle.subframes.specs.declared.subframe.SubframeFed.{SubframeFed}
+use Rattle.subframes.proofs.SubframeUnique.{back-subframe, back-state as back-collector}
+use Rattle.subframes.proofs.SubframeRecovery.{subframes-recover}
 use Rattle.subframes.specs.SubframeRecovery.{after as afterPages}
-use Rattle.dsms.specs.Dsm.{State as Dsms}
+use Rattle.dsms.specs.Dsm.{State as Dsms, Fed as DsmsFed, new as newDsms}
+use Rattle.dsms.specs.DsmPromises.{state as dsmState}
+use Rattle.dsms.specs.DsmHistory.{History as DsmHistory, begun as blocks-begun, called as block-by, by-value as block-fed}
+use Rattle.dsms.specs.declared.dsm.CollectDsm.{CollectDsm}
+use Rattle.dsms.proofs.DsmHistory.{any-calls}
+use Rattle.dsms.proofs.DsmRecovery.{dsm-recovers}
+use Rattle.dsms.proofs.DsmUnique.{back-state as back-dsm}
 use Rattle.dsms.specs.DsmRecovery.{Call as Block, fedTo, after as afterBlocks}
-use Rattle.page_replay.specs.Replay.{Time, later, Dsm, State, Run, subframesIn, dsmsIn, passedOn, fedHkroot, skipped, counted, fedPage, fed, pageStep}
+use Rattle.page_replay.specs.Replay as Replay
+use Rattle.page_replay.specs.Replay.{Time, later, Dsm, State, new, Begun, Run, subframesIn, dsmsIn, passedOn, fedHkroot, skipped, counted, fedPage, fed, pageStep}
 use Rattle.page_replay.specs.Replay.{andThen, onward, replayed, pagesOf, consumed, replayChecks, Outcome, replay}
 use Rattle.page_replay.specs.Pieces.{followedBy, Call, answeredTo, reported as reported-answer}
 use Rattle.page_replay.specs.ReplayPromises.{state, outcome, meaning-replay, meaning-subframes, meaning-dsms, BeginReplay, ReplayPages}
@@ -264,3 +279,131 @@ reached {b} (misfit {c = c} {x = x} {y = y} {z = z} {pages = pages} {subframes =
     ∙ ap (λ (l : List ℕ). held c (hkroot x l z′) (mack x l z′) (memory x l z′) subframes dsms) (u .mack-is)
     ∙ ap (λ (l : List ℕ). held c (hkroot x y l) (mack x y l) (memory x y l) subframes dsms) (u .memory-is)
     ∙ reached k
+
+-- It began with two new collectors.
+begun-collectors : (satellite week time : ℕ)
+    → (Replay.begun satellite week time [] [] [] .state .subframes ≡ newSubframes [] []) × (Replay.begun satellite week time [] [] [] .state .dsms ≡ newDsms [])
+unfolding Replay.begun
+begun-collectors satellite week time = go (eqb q 0)
+  where
+    q : ℕ
+    q = refusal (svnGstChecks satellite week time)
+
+    either : Bool → State
+    either b =
+        cond {A = Begun} b (record { state = new satellite week time [] [] []; answer = gives [] })
+        (record { state = new 0 0 0 [] [] []; answer = refused q }) .state
+
+    go : (b : Bool) → (either b .subframes ≡ newSubframes [] []) × (either b .dsms ≡ newDsms [])
+    go true = (refl, refl)
+    go false = (refl, refl)
+
+record New (b : Beginning) : Type 0 where
+  h540 : length (b .hkroot) ≡ 540
+  m2160 : length (b .mack) ≡ 2160
+  d208 : length (b .memory) ≡ 208
+  new-subframes : first b .subframes ≡ firstSubframes b
+  new-dsms : first b .dsms ≡ firstDsms b
+
+new-first : {b : Beginning} {c : PageReplay} {h m d : List ℕ} {pages : List (List ℕ)} {subframes : List Time} {dsms : List Dsm}
+    → History b c h m d pages subframes dsms → New b
+new-first {b} (begun satellite week time a e lh lm ld) =
+    let n = begun-collectors satellite week time in
+    let f : subframeState (b .replay .subframes) [] [] ≡ newSubframes [] [] = ap (λ (x : Begun). x .state .subframes) e ∙ n .0 in
+    let g : dsmState (b .replay .dsms) [] ≡ newDsms [] = ap (λ (x : Begun). x .state .dsms) e ∙ n .1 in
+    record {
+      h540 = lh;
+      m2160 = lm;
+      d208 = ld;
+      new-subframes =
+          ap (λ (s : Subframes). record { week = s .week; subframe = s .subframe; counts = s .counts; hkroot = b .hkroot; mack = b .mack }) f;
+      new-dsms = ap (λ (s : Dsms). record { id = s .id; came = s .came; held = s .held; done = s .done; memory = b .memory }) g;
+    }
+new-first (called k bytes budget r h′ m′ d′ e) = new-first k
+new-first (misfit hkroot mack memory k w bytes budget r x′ y′ z′ e) = new-first k
+
+-- Every answer of the subframe collector's definition is one of its code's, so that each page is a call.
+abbrev Coded : Answer → Type 0
+Coded a = meaning-subframe (back-subframe a) ≡ a
+
+fed-coded : (t : Subframes) (p : Page) → Coded (feedPage t p .answer)
+unfolding feedPage offered used answerAt
+fed-coded t p = go (eqb (refusal (feedChecks t p)) 0) (eqb (wordOf (p .time)) (getD (u .counts) (p .satellite - 1) 0)) (eqb (wordOf (p .time) + 1) 15)
+  where
+    u : Subframes
+    u = changed t (p .week) (subframeOf (p .time))
+
+    go : (a b c : Bool)
+        → Coded (cond {A = SubframesFed} a
+        (cond {A = SubframesFed} b
+        (record { state = used u (p .bytes) (p .satellite - 1) (wordOf (p .time)) .state; answer = cond c (gives (u .week ∷ 30 * u .subframe ∷ [])) nothing })
+        (record { state = u; answer = nothing }))
+        (record { state = t; answer = refused (refusal (feedChecks t p)) }) .answer)
+    go true true true = refl
+    go true true false = refl
+    go true false c = refl
+    go false b c = refl
+
+page-called : {c : CollectSubframe} {h m : List ℕ} {qs : List Page} → SubframeHistory c h m qs → (p : Page)
+    → let f = feedPage (subframeState c h m) p .state in SubframeHistory (back-collector f) (f .hkroot) (f .mack) (qs ++ (p ∷ []))
+page-called {c} {h} {m} k p =
+    let f = feedPage (subframeState c h m) p in
+    let r : SubframeFed = record { collector = back-collector (f .state); answer = back-subframe (f .answer) } in
+    let e : FeedSubframe c h m p r (f .state .hkroot) (f .state .mack) =
+    ap (λ (a : Answer). record { state = f .state; answer = a }) (fed-coded (subframeState c h m) p) in
+    page-by k (page-fed p r (f .state .hkroot) (f .state .mack) e)
+
+pages-called : (ps : List Page) {c : CollectSubframe} {h m : List ℕ} {qs : List Page} → SubframeHistory c h m qs
+    → let f = afterPages (subframeState c h m) ps in SubframeHistory (back-collector f) (f .hkroot) (f .mack) (qs ++ ps)
+pages-called [] {c} {h} {m} {qs} k = subst⁻¹ (λ (l : List Page). SubframeHistory c h m l) (append-nil qs) k
+pages-called (p ∷ ps) {c} {h} {m} {qs} k =
+    let f = afterPages (subframeState c h m) (p ∷ ps) in
+    subst (λ (l : List Page). SubframeHistory (back-collector f) (f .hkroot) (f .mack) l) (append-assoc qs (p ∷ []) ps) (pages-called ps (page-called k p))
+
+-- and each block
+block-called : {c : CollectDsm} {m : List ℕ} {es : List Block} → DsmHistory c m es → (d : Block)
+    → let f = fedTo (dsmState c m) d .state in DsmHistory (back-dsm f) (f .memory) (es ++ (d ∷ []))
+block-called {c} {m} {es} k d =
+    let w = any-calls .feed c m d in
+    let s : dsmState (w .0 .collector) (w .1) ≡ fedTo (dsmState c m) d .state = ap (λ (f : DsmsFed). f .state) (w .2) in
+    subst (λ (f : Dsms). DsmHistory (back-dsm f) (f .memory) (es ++ (d ∷ []))) s (block-by k (block-fed d (w .0) (w .1) (w .2)))
+
+blocks-called : (ds : List Block) {c : CollectDsm} {m : List ℕ} {es : List Block} → DsmHistory c m es
+    → let f = afterBlocks (dsmState c m) ds in DsmHistory (back-dsm f) (f .memory) (es ++ ds)
+blocks-called [] {c} {m} {es} k = subst⁻¹ (λ (l : List Block). DsmHistory c m l) (append-nil es) k
+blocks-called (d ∷ ds) {c} {m} {es} k =
+    let f = afterBlocks (dsmState c m) (d ∷ ds) in
+    subst (λ (l : List Block). DsmHistory (back-dsm f) (f .memory) l) (append-assoc es (d ∷ []) ds) (blocks-called ds (block-called k d))
+
+pub replay-recovers : ReplayRecovers
+replay-recovers b c h m d pages subframes dsms k =
+    let n = new-first k in
+    let e : held c h m d subframes dsms ≡ replayed (first b) pages = reached k in
+    let f : Feeds (first b) (pagesFed b pages) (replayed (first b) pages) = replay-feeds pages (first b) in
+    let blocks : blocksFrom (first b .subframes) (pagesFed b pages) ≡ blocksFed b pages =
+    ap (λ (s : Subframes). blocksFrom s (pagesFed b pages)) (n .new-subframes) in
+    let pages-in : subframeState (c .subframes) h m ≡ afterPages (firstSubframes b) (pagesFed b pages) =
+    ap (λ (r : Run). r .state .subframes) e ∙ f .subframes-is ∙ ap (λ (s : Subframes). afterPages s (pagesFed b pages)) (n .new-subframes) in
+    let blocks-in : dsmState (c .dsms) d ≡ afterBlocks (firstDsms b) (blocksFed b pages) =
+    ap (λ (r : Run). r .state .dsms) e ∙ f .dsms-is ∙ ap (afterBlocks (first b .dsms)) blocks
+    ∙ ap (λ (s : Dsms). afterBlocks s (blocksFed b pages)) (n .new-dsms) in
+    record {
+      one-run = e;
+      subframes-are = pages-in;
+      dsms-are = blocks-in;
+      subframes-answered =
+          ap (λ (r : Run). r .subframes) e ∙ f .subframes-done ∙ ap (λ (s : Subframes). subframesFrom s (pagesFed b pages)) (n .new-subframes);
+      dsms-answered =
+          ap (λ (r : Run). r .dsms) e ∙ f .dsms-done ∙ ap (dsmsFrom (first b .dsms)) blocks
+          ∙ ap (λ (s : Dsms). dsmsFrom s (blocksFed b pages)) (n .new-dsms);
+      page-recovers = λ ps qs p g. subframes-recover (b .hkroot) (b .mack) (n .h540) (n .m2160) ps p;
+      block-recovers = λ cs es x g. dsm-recovers (b .memory) (n .d208) cs x;
+      subframe-history =
+          subst⁻¹ (λ (s : Subframes). SubframeHistory (back-collector s) (s .hkroot) (s .mack) (pagesFed b pages)) pages-in
+          (pages-called (pagesFed b pages)
+          (pages-begun (record { week = 0; subframe = 0; counts = replicate 36 0 }) (b .hkroot) (b .mack) refl (n .h540) (n .m2160)));
+      dsm-history =
+          subst⁻¹ (λ (s : Dsms). DsmHistory (back-dsm s) (s .memory) (blocksFed b pages)) blocks-in
+          (blocks-called (blocksFed b pages)
+          (blocks-begun (record { id = 0; came = false; held = replicate 16 false; done = false }) (b .memory) refl (n .d208)));
+    }

@@ -4,6 +4,7 @@ use mathlib.Core.Path.{_≡_, refl, sym, ap, _∙_}
 use mathlib.Core.List.{List, [], _∷_}
 use Prim.Native.Nat.{ℕ}
 use Rattle.layouts.specs.Answer.{Answer, refused, nothing, gives}
+use Rattle.page_replay.specs.Agreed.{Agreed}
 use Rattle.page_replay.specs.Replay.{State, Time, Dsm, Begun, Outcome}
 use Rattle.page_replay.specs.ReplayPromises.{meaning-begun, meaning-replay, meaning-subframes, meaning-dsms, outcome, BeginReplay, ReplayPages}
 use Rattle.page_replay.specs.declared.replay.PageReplay.{PageReplay}
@@ -103,3 +104,6 @@ replay-pages c h m d pages budget r s x y z x′ y′ z′ p q =
           dsm = back-dsms (meaning-dsms (f .dsm));
         })
     whole f = rw (undo-answer (f .answer), undo-subframes (f .subframe), undo-dsms (f .dsm))
+
+pub agreed : Agreed
+agreed = record { new = begin-replay; replay = replay-pages }

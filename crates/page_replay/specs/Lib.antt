@@ -1,3 +1,4 @@
+pub mod Agreed
 pub mod Pieces
 pub mod Replay
 pub mod ReplayHistory

@@ -4,24 +4,29 @@
 -- Assumes nothing.
 use Prim.Native.Nat.{ℕ}
 use mathlib.Core.List.{List, [], _∷_, _++_}
-use mathlib.Core.Bool.{cond}
+use mathlib.Core.Bool.{false, cond}
 use mathlib.Core.Path.{_≡_}
-use lib.ListN.{length, getD, take, drop}
+use lib.ListN.{length, getD, take, drop, replicate}
 use Rattle.layouts.specs.Answer.{Answer, refused, nothing, gives}
 use Rattle.layouts.specs.InavPage.{isCounted, osnma}
 use Rattle.subframes.specs.Subframe.{Page, State as Subframes, new as newSubframes, feed as feedPage}
 use Rattle.subframes.specs.SubframePromises.{state as subframeState}
 use Rattle.subframes.specs.SubframeRecovery.{after as afterPages, run as runOfPages, Recovers as PageRecovers}
+use Rattle.subframes.specs.SubframeHistory.{History as SubframeHistory}
 use Rattle.dsms.specs.Dsm.{State as Dsms, new as newDsms}
 use Rattle.dsms.specs.DsmPromises.{state as dsmState}
 use Rattle.dsms.specs.DsmRecovery.{Call as Block, fedTo, after as afterBlocks, run as runOfBlocks, Recovers as BlockRecovers}
+use Rattle.dsms.specs.DsmHistory.{History as DsmHistory}
 use Rattle.page_replay.specs.Replay.{Time, later, Dsm, Run, hkrootOf, subframesIn, dsmsIn, pagesOf, replayed}
+use Rattle.page_replay.specs.Pieces.{goodPage}
 use Rattle.page_replay.specs.ReplayPromises.{state, meaning-subframes, meaning-dsms, BeginReplay, ReplayPages}
 use Rattle.page_replay.specs.declared.replay.PageReplay.{PageReplay}
 use Rattle.page_replay.specs.declared.replay.Begun.{Begun}
+use Rattle.page_replay.specs.declared.replay.Begun.the-variants.{Ready}
+use Rattle.page_replay.specs.declared.replay.NewReplay.{NewReplay}
 use Rattle.page_replay.specs.declared.replay.ReplayAnswer.{ReplayAnswer}
 use Rattle.page_replay.specs.declared.replay.ReplayAnswer.the-variants.{Refused, Consumed}
-use Rattle.page_replay.specs.declared.replay.SubframeDone.the-variants.{None}
+use Rattle.page_replay.specs.declared.replay.SubframeDone.the-variants.{None, Subframe}
 use Rattle.page_replay.specs.declared.replay.DsmDone.the-variants.{None as NoDsm}
 use Rattle.page_replay.specs.declared.replay.Replayed.{Replayed}
 
@@ -107,15 +112,25 @@ abbrev pub blocksFed : Beginning → List (List ℕ) → List Block
 blocksFed b pages = blocksFrom (firstSubframes b) (pagesFed b pages)
 
 -- What holds after a history.
-pub record Recovered (b : Beginning) (c : PageReplay) (hkroot mack memory : List ℕ) (pages : List (List ℕ)) (subframes : List Time) (dsms : List Dsm) : Type 0 where
-  -- the calls did what one run over all pages that they consumed does
-  pub one-run : _≡_ {A = Run} (record { state = state c hkroot mack memory; subframes = subframes; dsms = dsms })
-      (replayed (state (b .replay) (b .hkroot) (b .mack) (b .memory)) pages)
-  -- the collectors are as new ones that were fed the pages and the blocks one by one, and these answered what the calls did
-  pub subframes-are : subframeState (c .subframes) hkroot mack ≡ afterPages (firstSubframes b) (pagesFed b pages)
-  pub dsms-are : dsmState (c .dsms) memory ≡ afterBlocks (firstDsms b) (blocksFed b pages)
-  pub subframes-answered : subframes ≡ subframesFrom (firstSubframes b) (pagesFed b pages)
-  pub dsms-answered : dsms ≡ dsmsFrom (firstDsms b) (blocksFed b pages)
+pub record Recovered (b : Beginning) (c : PageReplay) (hkroot mack memory : List ℕ) (pages : List (List ℕ)) (subframes : List Time) (dsms : List Dsm) : Type 0
+  where
+    -- the calls did what one run over all pages that they consumed does
+    pub one-run : _≡_ {A = Run} (record { state = state c hkroot mack memory; subframes = subframes; dsms = dsms })
+        (replayed (state (b .replay) (b .hkroot) (b .mack) (b .memory)) pages)
+    -- the collectors are as new ones that were fed the pages and the blocks one by one, and these answered what the calls did
+    pub subframes-are : subframeState (c .subframes) hkroot mack ≡ afterPages (firstSubframes b) (pagesFed b pages)
+    pub dsms-are : dsmState (c .dsms) memory ≡ afterBlocks (firstDsms b) (blocksFed b pages)
+    pub subframes-answered : subframes ≡ subframesFrom (firstSubframes b) (pagesFed b pages)
+    pub dsms-answered : dsms ≡ dsmsFrom (firstDsms b) (blocksFed b pages)
+    -- each page and each block recovers: "In it all answers and completed messages are those a new collector gives. .."
+    pub page-recovers : (ps qs : List Page) (p : Page) → pagesFed b pages ≡ ps ++ (p ∷ qs)
+        → let s = afterPages (firstSubframes b) ps in PageRecovers s (runOfPages ps) p (feedPage s p)
+    pub block-recovers : (cs es : List Block) (d : Block) → blocksFed b pages ≡ cs ++ (d ∷ es)
+        → let s = afterBlocks (firstDsms b) cs in BlockRecovers s (runOfBlocks cs) d (fedTo s d)
+    -- the record's collectors and the memory are what histories of the collectors' own calls leave, so that all that `CodeRecovers` of `subframes` and of
+    -- `dsms` say holds of them: what their viewers show, and what they answer next
+    pub subframe-history : SubframeHistory (c .subframes) hkroot mack (pagesFed b pages)
+    pub dsm-history : DsmHistory (c .dsms) memory (blocksFed b pages)
 
 abbrev pub ReplayRecovers : Type 0
 ReplayRecovers =
@@ -141,3 +156,50 @@ abbrev pub MisfitIsRefused : Type 0
 MisfitIsRefused =
     (c : PageReplay) (x y z bytes : List ℕ) (budget : ℕ) (r : Replayed) (x′ y′ z′ : List ℕ) → Misfit x y z
     → ReplayPages c x y z bytes budget r x′ y′ z′ → (r .answer ≡ Refused 1) × Unchanged c x y z r x′ y′ z′
+
+-- No premise is empty: whatever is handed in, each call has an answer that meets its promise.
+pub record AnyCalls : Type 0 where
+  pub new : (satellite week time : ℕ) → (r : NewReplay) × BeginReplay satellite week time r
+  pub replay : (c : PageReplay) (hkroot mack memory bytes : List ℕ) (budget : ℕ)
+      → (r : Replayed) × (hkroot′ : List ℕ) × (mack′ : List ℕ) × (memory′ : List ℕ) × ReplayPages c hkroot mack memory bytes budget r hkroot′ mack′ memory′
+
+-- The smallest case: "Fifteen good pages with a zero field, satellite 3, week 1200, time 60", and after the seventh a call with a budget of 16.
+abbrev pub zeros : Beginning
+zeros =
+    record {
+      replay =
+          record {
+            satellite = 3;
+            week = 1200;
+            time = 60;
+            subframes = record { week = 0; subframe = 0; counts = replicate 36 0 };
+            dsms = record { id = 0; came = false; held = replicate 16 false; done = false };
+            pages = 0;
+            skipped = 0;
+            used = 0;
+            unused = 0;
+            «subframes_done» = 0;
+            «dsms_done» = 0;
+          };
+      hkroot = replicate 540 0;
+      mack = replicate 2160 0;
+      memory = replicate 208 0;
+    }
+
+abbrev pub joined : List (List ℕ) → List ℕ
+joined [] = []
+joined (page ∷ pages) = page ++ joined pages
+
+abbrev pub goodPages : ℕ → List ℕ
+goodPages n = joined (replicate n goodPage)
+
+-- It is refused with 7, and the other eight complete the subframe; seven of them do not.
+pub record SmallestCase : Type 0 where
+  pub begins : BeginReplay 3 1200 60 (record { replay = zeros .replay; answer = Ready })
+  pub comes-out : {c : PageReplay} {hkroot mack memory : List ℕ} → History zeros c hkroot mack memory (replicate 7 goodPage) [] []
+      → (bytes : List ℕ) (r : Replayed) (hkroot′ mack′ memory′ : List ℕ) → ReplayPages c hkroot mack memory bytes 16 r hkroot′ mack′ memory′
+      → (q : Replayed) (hkroot″ mack″ memory″ : List ℕ) → ReplayPages (r .replay) hkroot′ mack′ memory′ (goodPages 8) 15 q hkroot″ mack″ memory″
+      → (r .answer ≡ Refused 7) × (q .answer ≡ Consumed 8) × (q .subframe ≡ Subframe 1200 60)
+  pub stays-out : {c : PageReplay} {hkroot mack memory : List ℕ} → History zeros c hkroot mack memory (replicate 7 goodPage) [] []
+      → (q : Replayed) (hkroot′ mack′ memory′ : List ℕ) → ReplayPages c hkroot mack memory (goodPages 7) 15 q hkroot′ mack′ memory′
+      → (q .answer ≡ Consumed 7) × (q .subframe ≡ None)
