@@ -41,7 +41,8 @@ one-or-not false = refl
 fed-adds : (s : State) (page : List ℕ) → AddsUp (s .totals) (fed s (fedPage s page)) 1
 unfolding fed counted
 fed-adds s page =
-    record { all-pages = refl; each-page = omega (arith, one-or-not (isTaken (usedAnswer (s .subframes) (fedPage s page)))); all-subframes = refl; all-dsms = refl }
+    let u : Bool = isTaken (usedAnswer (s .subframes) (fedPage s page)) in
+    record { all-pages = refl; each-page = omega (arith, one-or-not u); all-subframes = refl; all-dsms = refl }
 
 skipped-adds : (s : State) → AddsUp (s .totals) (skipped s) 1
 unfolding skipped
@@ -337,9 +338,10 @@ module _ (s : State) (n : ℕ) (c : Call) (r : Ready s n) where
   unfolding replayed
   ready-still l =
       let k : ℕ = reported (o .answer) in
-      let many : length (consumedPages s c) ≡ k = pages-many k (c .bytes) in
-      let g : Good (replayed s (consumedPages s c) .state) (most - n + length (consumedPages s c)) = good-onward (consumedPages s c) (start s) (most - n) good in
-      let same : replayed s (consumedPages s c) .state ≡ o .state = sym (ap (λ (x : Run). x .state) (call-consumes s c)) in
+      let qs : List (List ℕ) = consumedPages s c in
+      let many : length qs ≡ k = pages-many k (c .bytes) in
+      let g : Good (replayed s qs .state) (most - n + length qs) = good-onward qs (start s) (most - n) good in
+      let same : replayed s qs .state ≡ o .state = sym (ap (λ (x : Run). x .state) (call-consumes s c)) in
       good-ready (o .state) (most - n + k) (n - k) (rw (many, same) at g) (omega (arith, few))
 
 pub calls-go-on : CallsGoOn

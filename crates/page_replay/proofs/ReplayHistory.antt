@@ -31,8 +31,8 @@ use Rattle.dsms.proofs.DsmRecovery.{dsm-recovers}
 use Rattle.dsms.proofs.DsmUnique.{back-state as back-dsm}
 use Rattle.dsms.specs.DsmRecovery.{Call as Block, fedTo, after as afterBlocks}
 use Rattle.page_replay.specs.Replay as Replay
-use Rattle.page_replay.specs.Replay.{Time, later, Dsm, State, new, Begun, Run, subframesIn, dsmsIn, passedOn, fedHkroot, skipped, counted, fedPage, fed, pageStep}
-use Rattle.page_replay.specs.Replay.{andThen, onward, replayed, pagesOf, consumed, replayChecks, Outcome, replay}
+use Rattle.page_replay.specs.Replay.{Time, later, Dsm, State, new, Begun, Run, subframesIn, dsmsIn, passedOn, fedHkroot, skipped, counted}
+use Rattle.page_replay.specs.Replay.{fedPage, fed, pageStep, andThen, onward, replayed, pagesOf, consumed, replayChecks, Outcome, replay}
 use Rattle.page_replay.specs.Pieces.{followedBy, Call, answeredTo, reported as reported-answer}
 use Rattle.page_replay.specs.ReplayPromises.{state, outcome, meaning-replay, meaning-subframes, meaning-dsms, BeginReplay, ReplayPages}
 use Rattle.page_replay.specs.ReplayHistory.{Beginning, reported, Misfit, History, begun, called, misfit, fedAs, fedFrom, blocksIn, blocksFrom}
@@ -243,10 +243,10 @@ pub misfit-is-refused : MisfitIsRefused
 misfit-is-refused c x y z bytes budget r x′ y′ z′ w e = misfit-call c x y z bytes budget r x′ y′ z′ w e
 
 -- After a history: one run over the pages that were consumed.
-abbrev first : Beginning → State
+abbrev pub first : Beginning → State
 first b = state (b .replay) (b .hkroot) (b .mack) (b .memory)
 
-abbrev held : PageReplay → List ℕ → List ℕ → List ℕ → List Time → List Dsm → Run
+abbrev pub held : PageReplay → List ℕ → List ℕ → List ℕ → List Time → List Dsm → Run
 held c hkroot mack memory subframes dsms = record { state = state c hkroot mack memory; subframes = subframes; dsms = dsms }
 
 same-number : (a : ReplayAnswer) → reported a ≡ reported-answer (meaning-replay a)
@@ -263,7 +263,7 @@ called-run c h m d bytes budget r h′ m′ d′ e =
     ap (λ (o : Outcome). record { state = o .state; subframes = o .subframes; dsms = o .dsms }) e ∙ call-consumes s call
     ∙ ap (λ (k : ℕ). replayed s (pagesOf k bytes)) (sym number)
 
-reached : {b : Beginning} {c : PageReplay} {h m d : List ℕ} {pages : List (List ℕ)} {subframes : List Time} {dsms : List Dsm}
+pub reached : {b : Beginning} {c : PageReplay} {h m d : List ℕ} {pages : List (List ℕ)} {subframes : List Time} {dsms : List Dsm}
     → History b c h m d pages subframes dsms → held c h m d subframes dsms ≡ replayed (first b) pages
 unfolding replayed
 reached (begun satellite week time a e lh lm ld) = refl

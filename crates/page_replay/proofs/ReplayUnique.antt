@@ -81,7 +81,7 @@ begin-replay satellite week time r s p q = whole r ∙ ap back-new (p ∙ sym q)
     whole : (f : NewReplay) → _≡_ {A = NewReplay} f (record { replay = f .replay; answer = back-begun (meaning-begun (f .answer)) })
     whole f = rw (undo-begun (f .answer))
 
-abbrev back-outcome : Outcome → Replayed
+abbrev pub back-outcome : Outcome → Replayed
 back-outcome o =
     record { replay = back-state (o .state); answer = back-answer (o .answer); subframe = back-subframes (o .subframes); dsm = back-dsms (o .dsms) }
 
