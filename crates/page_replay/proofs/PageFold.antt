@@ -209,7 +209,7 @@ pub record Sound (s : State) (n : ℕ) : Type 0 where
   pub subframes-few : s .totals .subframes ≤ n
   pub dsms-few : s .totals .dsms ≤ n
 
-later-weeks : (t : Time) → t .week ≤ 4095 → later t .week ≤ 4095
+pub later-weeks : (t : Time) → t .week ≤ 4095 → later t .week ≤ 4095
 unfolding later
 later-weeks t h = go (ltb (t .time + 2) 604800) (eqb (t .week) 4095) refl
   where
@@ -221,7 +221,7 @@ later-weeks t h = go (ltb (t .time + 2) 604800) (eqb (t .week) 4095) refl
     go false true e = omega arith
     go false false e = let ne = eqb-false (t .week) 4095 e in omega arith
 
-later-week : (t : Time) → t .time ≤ 604799 → later t .time ≤ 604799
+pub later-week : (t : Time) → t .time ≤ 604799 → later t .time ≤ 604799
 unfolding later
 later-week t h = go (ltb (t .time + 2) 604800) refl
   where

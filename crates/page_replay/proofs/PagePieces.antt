@@ -102,7 +102,7 @@ onward-append : (ps qs : List (List ℕ)) (r : Run) → onward r (ps ++ qs) ≡ 
 onward-append [] qs r = refl
 onward-append (p ∷ ps) qs r = onward-append ps qs (andThen r p)
 
-abbrev start : State → Run
+abbrev pub start : State → Run
 start s = record { state = s; subframes = []; dsms = [] }
 
 followed-assoc : (a b c : Run) → followedBy (followedBy a b) c ≡ followedBy a (followedBy b c)
@@ -154,7 +154,7 @@ dsms-step s page h = go (isCounted page)
     go true = dsms-passed (feedPage (s .subframes) (fedPage s page) .answer) (feedPage (s .subframes) (fedPage s page) .state) (s .satellite) (s .dsms) h
     go false = h
 
-good-onward : (ps : List (List ℕ)) (r : Run) (n : ℕ) → Good (r .state) n → Good (onward r ps .state) (n + length ps)
+pub good-onward : (ps : List (List ℕ)) (r : Run) (n : ℕ) → Good (r .state) n → Good (onward r ps .state) (n + length ps)
 unfolding andThen
 good-onward [] r n g = rw (add-zero n) g
 good-onward (p ∷ ps) r n g =
@@ -174,12 +174,12 @@ module _ (s : State) (n budget : ℕ) (g : Good s n) (l : n ≤ most) where
   in-place : 0 ≡ refusal (svnGstChecks (s .satellite) (s .next .week) (s .next .time))
   in-place = let f = g .sound in start-admitted (s .satellite) (s .next .week) (s .next .time) (f .some) (f .few) (f .in-weeks) (f .in-week)
 
-  admitted-call : budget ≤ 15 → 0 ≡ refusal (replayChecks s budget)
+  pub admitted-call : budget ≤ 15 → 0 ≡ refusal (replayChecks s budget)
   admitted-call b =
       call-admitted s budget (g .dsms .d208)
       (sound-admitted (s .subframes) (g .collector)) refl (g .dsms .id-low) (few-totals s n (g .sound) l) refl in-place refl b
 
-  high-budget-7 : 15 < budget → 7 ≡ refusal (replayChecks s budget)
+  pub high-budget-7 : 15 < budget → 7 ≡ refusal (replayChecks s budget)
   high-budget-7 b =
       other-budget s budget (g .dsms .d208)
       (sound-admitted (s .subframes) (g .collector)) refl (g .dsms .id-low) (few-totals s n (g .sound) l) refl in-place refl b
@@ -347,7 +347,7 @@ module _ (s : State) (n : ℕ) (c : Call) (r : Ready s n) where
 pub calls-go-on : CallsGoOn
 calls-go-on s n c r = record { legal-budget = legal-budget s n c r; high-budget = high-budget s n c r; ready-still = ready-still s n c r }
 
-zeros-small : small (replicate 36 0) ≡ true
+pub zeros-small : small (replicate 36 0) ≡ true
 unfolding small
 zeros-small = refl
 

@@ -1,49 +1,56 @@
 -- Whatever history of calls: what the code left is one run of the definition over the pages that were consumed, and its collectors are fed pages and
 -- blocks one by one.
 -- Assumes nothing.
-use Prim.Native.Nat.{ℕ, _+_, _-_, _*_}
+use Prim.Native.Nat.{ℕ, _+_, _-_, _*_, _≤_, min}
 use native.Mathlib.Omega.{arith}
 use native.Mathlib.Decide.{ℕ-discrete}
 use mathlib.Core.Path.{_≡_, refl, sym, ap, _∙_, subst, subst⁻¹}
 use mathlib.Core.List.{List, [], _∷_, _++_, append-nil, append-assoc}
 use mathlib.Core.Bool.{Bool, true, false, cond}
-use lib.ListN.{length, getD, replicate}
-use lib.Dec.{eqb}
-use Rattle.layouts.specs.Answer.{Answer, refused, nothing, gives, refusal}
-use Rattle.layouts.specs.InavPage.{isCounted}
+use lib.ListN.{length, getD, take, drop, replicate, length-take, length-drop}
+use lib.Dec.{ltb, eqb}
+use borrow.Author.Tests.{ltb-true, ltb-false, eq-eqb}
+use Rattle.layouts.specs.Answer.{Answer, refused, nothing, gives, refusal, copied, shownOr}
+use Rattle.layouts.specs.InavPage.{isCounted, osnma}
+use Rattle.layouts.proofs.Answers.{none-fails}
+use Rattle.layouts.proofs.Tags.{bytes-long}
 use Rattle.runs.specs.Runs.{afterAll}
 use Rattle.layouts.specs.Gst.{svnGstChecks}
 use Rattle.subframes.specs.Subframe.{Page, State as Subframes, Fed as SubframesFed, new as newSubframes, wordOf, subframeOf, feedChecks, changed}
-use Rattle.subframes.specs.Subframe.{answerAt, used, offered, feed as feedPage}
-use Rattle.subframes.specs.SubframePromises.{state as subframeState, meaning-subframe, FeedSubframe}
+use Rattle.subframes.specs.Subframe.{answerAt, used, offered, feed as feedPage, viewChecks, view as viewPage}
+use Rattle.subframes.specs.SubframePromises.{call, state as subframeState, meaning-subframe, FeedSubframe}
 use Rattle.subframes.specs.SubframeHistory.{History as SubframeHistory, begun as pages-begun, called as page-by, one as page-fed}
 use Rattle.subframes.specs.declared.subframe.CollectSubframe.{CollectSubframe}
 use Rattle.subframes.specs.declared.subframe.SubframeFed.{SubframeFed}
 use Rattle.subframes.proofs.SubframeUnique.{back-subframe, back-state as back-collector}
 use Rattle.subframes.proofs.SubframeRecovery.{subframes-recover}
-use Rattle.subframes.specs.SubframeRecovery.{after as afterPages}
+use Rattle.subframes.proofs.SubframeSound.{Sound as Collecting, sound-admitted, sound-fed}
+use Rattle.subframes.specs.SubframeRecovery.{isAdmitted as isAdmittedPage, after as afterPages}
 use Rattle.dsms.specs.Dsm.{State as Dsms, Fed as DsmsFed, new as newDsms}
 use Rattle.dsms.specs.DsmPromises.{state as dsmState}
 use Rattle.dsms.specs.DsmHistory.{History as DsmHistory, begun as blocks-begun, called as block-by, by-value as block-fed}
 use Rattle.dsms.specs.declared.dsm.CollectDsm.{CollectDsm}
 use Rattle.dsms.proofs.DsmHistory.{any-calls}
 use Rattle.dsms.proofs.DsmRecovery.{dsm-recovers}
+use Rattle.dsms.proofs.DsmSound.{Sound as Gathering}
 use Rattle.dsms.proofs.DsmUnique.{back-state as back-dsm}
-use Rattle.dsms.specs.DsmRecovery.{Call as Block, fedTo, after as afterBlocks}
+use Rattle.dsms.specs.DsmRecovery.{Call as Block, isAdmitted as isAdmittedBlock, fedTo, after as afterBlocks}
 use Rattle.page_replay.specs.Replay as Replay
-use Rattle.page_replay.specs.Replay.{Time, later, Dsm, State, new, Begun, Run, subframesIn, dsmsIn, passedOn, fedHkroot, skipped, counted}
-use Rattle.page_replay.specs.Replay.{fedPage, fed, pageStep, andThen, onward, replayed, pagesOf, consumed, replayChecks, Outcome, replay}
+use Rattle.page_replay.specs.Replay.{Time, later, Dsm, Totals, State, new, Begun, Run, hkrootOf, subframesIn, dsmsIn, passedOn, fedHkroot, skipped, counted}
+use Rattle.page_replay.specs.Replay.{fedPage, fed, pageStep, andThen, onward, replayed, pagesOf, wholePages, consumed, most, areFew, replayChecks, Outcome, replay}
 use Rattle.page_replay.specs.Pieces.{followedBy, Call, answeredTo, reported as reported-answer}
 use Rattle.page_replay.specs.ReplayPromises.{state, outcome, meaning-replay, meaning-subframes, meaning-dsms, BeginReplay, ReplayPages}
 use Rattle.page_replay.specs.ReplayHistory.{Beginning, reported, Misfit, History, begun, called, misfit, fedAs, fedFrom, blocksIn, blocksFrom}
 use Rattle.page_replay.specs.ReplayHistory.{subframesFrom, dsmsFrom, firstSubframes, firstDsms, pagesFed, blocksFed, Recovered, ReplayRecovers}
-use Rattle.page_replay.specs.ReplayHistory.{Unchanged, RefusedChangesNothing, MisfitIsRefused}
+use Rattle.page_replay.specs.ReplayHistory.{blockIn, refusedStart, CallAnswers, CallsAnswered, Unchanged, RefusedChangesNothing, MisfitIsRefused}
 use Rattle.page_replay.specs.declared.replay.PageReplay.{PageReplay}
 use Rattle.page_replay.specs.declared.replay.ReplayAnswer.{ReplayAnswer}
 use Rattle.page_replay.specs.declared.replay.ReplayAnswer.the-variants.{Refused, Consumed}
 use Rattle.page_replay.specs.declared.replay.Replayed.{Replayed}
-use Rattle.page_replay.proofs.PagePieces.{split-anywhere, call-consumes}
-use Rattle.page_replay.proofs.PageRefusals.{other-dsm-bytes, other-subframes, replay-refused}
+use Rattle.page_replay.proofs.PageFold.{later-weeks, later-week}
+use Rattle.page_replay.proofs.PagePieces.{Good, start, good-onward, zeros-small, admitted-call, high-budget-7, split-anywhere, call-consumes}
+use Rattle.page_replay.proofs.PageSteps.{start-admitted}
+use Rattle.page_replay.proofs.PageRefusals.{other-dsm-bytes, other-subframes, other-place, replay-refused, replay-done}
 use Rattle.page_replay.proofs.ReplayUnique.{back-answer, back-subframes, back-dsms, back-state, undo-answer, undo-subframes, undo-dsms}
 use Rattle.subframes.proofs.Pages.{other-hkroot, other-mack}
 
@@ -281,10 +288,13 @@ reached {b} (misfit {c = c} {x = x} {y = y} {z = z} {pages = pages} {subframes =
     ∙ reached k
 
 -- It began with two new collectors.
-begun-collectors : (satellite week time : ℕ)
-    → (Replay.begun satellite week time [] [] [] .state .subframes ≡ newSubframes [] []) × (Replay.begun satellite week time [] [] [] .state .dsms ≡ newDsms [])
+abbrev noTotals : Totals
+noTotals = record { pages = 0; skipped = 0; used = 0; unused = 0; subframes = 0; dsms = 0 }
+
+begun-state : (satellite week time : ℕ) → (Replay.begun satellite week time [] [] [] .state .subframes ≡ newSubframes [] [])
+    × (Replay.begun satellite week time [] [] [] .state .dsms ≡ newDsms []) × (Replay.begun satellite week time [] [] [] .state .totals ≡ noTotals)
 unfolding Replay.begun
-begun-collectors satellite week time = go (eqb q 0)
+begun-state satellite week time = go (eqb q 0)
   where
     q : ℕ
     q = refusal (svnGstChecks satellite week time)
@@ -294,9 +304,9 @@ begun-collectors satellite week time = go (eqb q 0)
         cond {A = Begun} b (record { state = new satellite week time [] [] []; answer = gives [] })
         (record { state = new 0 0 0 [] [] []; answer = refused q }) .state
 
-    go : (b : Bool) → (either b .subframes ≡ newSubframes [] []) × (either b .dsms ≡ newDsms [])
-    go true = (refl, refl)
-    go false = (refl, refl)
+    go : (b : Bool) → (either b .subframes ≡ newSubframes [] []) × (either b .dsms ≡ newDsms []) × (either b .totals ≡ noTotals)
+    go true = (refl, refl, refl)
+    go false = (refl, refl, refl)
 
 record New (b : Beginning) : Type 0 where
   h540 : length (b .hkroot) ≡ 540
@@ -304,11 +314,15 @@ record New (b : Beginning) : Type 0 where
   d208 : length (b .memory) ≡ 208
   new-subframes : first b .subframes ≡ firstSubframes b
   new-dsms : first b .dsms ≡ firstDsms b
+  no-totals : first b .totals ≡ noTotals
+
+sound-new : (b : Beginning) → New b → Collecting (firstSubframes b)
+sound-new b n = record { h540 = n .h540; m2160 = n .m2160; week-fits = omega arith; subframe-fits = omega arith; all-small = zeros-small }
 
 new-first : {b : Beginning} {c : PageReplay} {h m d : List ℕ} {pages : List (List ℕ)} {subframes : List Time} {dsms : List Dsm}
     → History b c h m d pages subframes dsms → New b
 new-first {b} (begun satellite week time a e lh lm ld) =
-    let n = begun-collectors satellite week time in
+    let n = begun-state satellite week time in
     let f : subframeState (b .replay .subframes) [] [] ≡ newSubframes [] [] = ap (λ (x : Begun). x .state .subframes) e ∙ n .0 in
     let g : dsmState (b .replay .dsms) [] ≡ newDsms [] = ap (λ (x : Begun). x .state .dsms) e ∙ n .1 in
     record {
@@ -318,9 +332,166 @@ new-first {b} (begun satellite week time a e lh lm ld) =
       new-subframes =
           ap (λ (s : Subframes). record { week = s .week; subframe = s .subframe; counts = s .counts; hkroot = b .hkroot; mack = b .mack }) f;
       new-dsms = ap (λ (s : Dsms). record { id = s .id; came = s .came; held = s .held; done = s .done; memory = b .memory }) g;
+      no-totals = ap (λ (x : Begun). x .state .totals) e ∙ n .2;
     }
 new-first (called k bytes budget r h′ m′ d′ e) = new-first k
 new-first (misfit hkroot mack memory k w bytes budget r x′ y′ z′ e) = new-first k
+
+-- A history that began in range is legal, as far as the totals go.
+good-new : {b : Beginning} → New b → refusedStart b ≡ 0 → Good (first b) 0
+good-new {b} n z =
+    let f = none-fails (svnGstChecks (b .replay .satellite) (b .replay .week) (b .replay .time)) tt z in
+    let none = n .no-totals in
+    record {
+      sound =
+          record {
+            some = ltb-false (b .replay .satellite) 1 (f .0);
+            few = ltb-false 36 (b .replay .satellite) (f .1 .0);
+            in-weeks = ltb-false 4095 (b .replay .week) (f .1 .1 .0);
+            in-week = ltb-false 604799 (b .replay .time) (f .1 .1 .1 .0);
+            pages-few = omega (arith, ap (λ (t : Totals). t .pages) none);
+            skipped-few = omega (arith, ap (λ (t : Totals). t .skipped) none);
+            used-few = omega (arith, ap (λ (t : Totals). t .used) none);
+            unused-few = omega (arith, ap (λ (t : Totals). t .unused) none);
+            subframes-few = omega (arith, ap (λ (t : Totals). t .subframes) none);
+            dsms-few = omega (arith, ap (λ (t : Totals). t .dsms) none);
+          };
+      collector = subst⁻¹ Collecting (n .new-subframes) (sound-new b n);
+      dsms = subst⁻¹ Gathering (n .new-dsms) (record { d208 = n .d208; id-low = omega arith });
+    }
+
+-- Where `new` was refused every call is, and no page is consumed.
+few-none : true ≡ areFew noTotals
+unfolding areFew
+few-none = refl
+
+twelve : {b : Beginning} → New b → (refusedStart b ≡ 0 → ⊥) → (budget : ℕ) → 12 ≡ refusal (replayChecks (first b) budget)
+twelve {b} n ne budget =
+    other-place (first b) budget (n .d208) (sound-admitted (first b .subframes) (subst⁻¹ Collecting (n .new-subframes) (sound-new b n))) refl
+    (omega (arith, ap (λ (d : Dsms). d .id) (n .new-dsms))) (few-none ∙ sym (ap areFew (n .no-totals))) refl refl ne
+
+stuck : {b : Beginning} {c : PageReplay} {h m d : List ℕ} {pages : List (List ℕ)} {subframes : List Time} {dsms : List Dsm}
+    → History b c h m d pages subframes dsms → pages ≡ [] → (refusedStart b ≡ 0 → ⊥) → (bytes : List ℕ) (budget : ℕ) (r : Replayed) (h′ m′ d′ : List ℕ)
+    → ReplayPages c h m d bytes budget r h′ m′ d′ → r .answer ≡ Refused 12
+unfolding replayed
+stuck {b} k none ne bytes budget r h′ m′ d′ e =
+    let at : state _ _ _ _ ≡ first b = ap (λ (x : Run). x .state) (reached k) ∙ ap (λ (ps : List (List ℕ)). replayed (first b) ps .state) none in
+    let q = e ∙ ap (λ (s : State). replay s bytes budget) at
+    ∙ sym (replay-refused (first b) bytes budget (twelve (new-first k) ne budget) (λ z. absurd (omega (arith, z)))) in
+    sym (undo-answer (r .answer)) ∙ ap (λ (o : Outcome). back-answer (o .answer)) q
+
+never : {b : Beginning} {c : PageReplay} {h m d : List ℕ} {pages : List (List ℕ)} {subframes : List Time} {dsms : List Dsm}
+    → History b c h m d pages subframes dsms → (refusedStart b ≡ 0 → ⊥) → pages ≡ []
+unfolding pagesOf
+never (begun satellite week time a e lh lm ld) ne = refl
+never (called {pages = pages} k bytes budget r h′ m′ d′ e) ne =
+    let none : pages ≡ [] = never k ne in
+    ap (λ (a : ReplayAnswer). pages ++ pagesOf (reported a) bytes) (stuck k none ne bytes budget r h′ m′ d′ e) ∙ append-nil pages ∙ none
+never (misfit hkroot mack memory k w bytes budget r x′ y′ z′ e) ne = never k ne
+
+numbered : (s : State) (n : ℕ) (bytes : List ℕ) (budget : ℕ) → Good s n → n ≤ most
+    → replay s bytes budget .answer ≡ cond (ltb 15 budget) (refused 7) (gives (min budget (wholePages bytes) ∷ []))
+numbered s n bytes budget g l = go (ltb 15 budget) refl
+  where
+    go : (t : Bool) → ltb 15 budget ≡ t → replay s bytes budget .answer ≡ cond t (refused 7) (gives (min budget (wholePages bytes) ∷ []))
+    go true e =
+        ap (λ (o : Outcome). o .answer)
+        (sym (replay-refused s bytes budget (high-budget-7 s n budget g l (ltb-true 15 budget e)) (λ z. absurd (omega (arith, z)))))
+    go false e =
+        ap (λ (o : Outcome). o .answer) (sym (replay-done s bytes budget (admitted-call s n budget g l (ltb-false 15 budget e)) refl refl refl))
+
+good-after : {b : Beginning} {c : PageReplay} {h m d : List ℕ} {pages : List (List ℕ)} {subframes : List Time} {dsms : List Dsm}
+    → History b c h m d pages subframes dsms → refusedStart b ≡ 0 → Good (state c h m d) (0 + length pages)
+unfolding replayed
+good-after {b} {pages = pages} k z =
+    subst⁻¹ (λ (s : State). Good s (0 + length pages)) (ap (λ (x : Run). x .state) (reached k)) (good-onward pages (start (first b)) 0 (good-new (new-first k) z))
+
+pub calls-answered : CallsAnswered
+calls-answered b c h m d pages subframes dsms k bytes budget r h′ m′ d′ e =
+    record {
+      in-range = λ z l.
+          ap (λ (o : Outcome). o .answer) e ∙ numbered (state c h m d) (0 + length pages) bytes budget (good-after k z) (omega (arith, l));
+      never-began = λ ne. (never k ne, stuck k (never k ne) ne bytes budget r h′ m′ d′ e);
+    }
+
+-- The collectors refuse no page and no block.
+abbrev Each : {A : Type 0} → (A → Type 0) → List A → Type 0
+Each P [] = Unit {0}
+Each P (x ∷ xs) = P x × Each P xs
+
+each-append : {A : Type 0} (P : A → Type 0) (xs ys : List A) → Each P xs → Each P ys → Each P (xs ++ ys)
+each-append P [] ys f g = g
+each-append P (x ∷ xs) ys f g = (f .0, each-append P xs ys (f .1) g)
+
+each-at : {A : Type 0} (P : A → Type 0) (xs ys : List A) (x : A) → Each P (xs ++ (x ∷ ys)) → P x
+each-at P [] ys x f = f .0
+each-at P (y ∷ xs) ys x f = each-at P xs ys x (f .1)
+
+record Fits (p : Page) : Type 0 where
+  five : length (p .bytes) ≡ 5
+  some : 1 ≤ p .satellite
+  few : p .satellite ≤ 36
+  in-weeks : p .week ≤ 4095
+  in-week : p .time ≤ 604799
+
+fits-admitted : (p : Page) → Fits p → isAdmittedPage p ≡ true
+unfolding refusal
+fits-admitted p f =
+    let z = start-admitted (p .satellite) (p .week) (p .time) (f .some) (f .few) (f .in-weeks) (f .in-week) in
+    rw (eq-eqb (length (p .bytes)) 5 (f .five)) (eq-eqb _ 0 (sym z))
+
+fed-fit : (pages : List (List ℕ)) (n : ℕ) (t : Time) → 1 ≤ n → n ≤ 36 → t .week ≤ 4095 → t .time ≤ 604799 → Each Fits (fedFrom n t pages)
+unfolding fedFrom osnma
+fed-fit [] n t l u v w = tt
+fed-fit (page ∷ pages) n t l u v w =
+    each-append Fits (fedAs n t page) (fedFrom n (later t) pages) (go (isCounted page)) (fed-fit pages n (later t) l u (later-weeks t v) (later-week t w))
+  where
+    go : (b : Bool) → Each Fits (cond b (call (osnma page) n (t .week) (t .time) ∷ []) [])
+    go true = (record { five = bytes-long page 138 5; some = l; few = u; in-weeks = v; in-week = w }, tt)
+    go false = tt
+
+hkroot-long : (s : Subframes) (n : ℕ) → Collecting s → 1 ≤ n → n ≤ 36 → length (hkrootOf s n) ≡ 15
+unfolding copied viewPage
+hkroot-long s n k l u = go (eqb (refusal (viewChecks s n)) 0) (eqb (getD (s .counts) (n - 1) 0) 15)
+  where
+    go : (a b : Bool)
+        → length (shownOr (replicate 15 0) (s .hkroot) (cond a (cond b (gives (15 * (n - 1) ∷ 15 ∷ [])) nothing) (refused (refusal (viewChecks s n))))) ≡ 15
+    go true true = simp (length-take, length-drop) (omega (arith, k .h540))
+    go true false = refl
+    go false b = refl
+
+block-long : (m : List ℕ) → length m ≡ 15 → isAdmittedBlock (blockIn m) ≡ true
+block-long m l = eq-eqb (length (take 13 (drop 2 m))) 13 (simp (length-take, length-drop) (omega arith))
+
+blocks-fit : (ps : List Page) (s : Subframes) → Collecting s → Each Fits ps → Each (λ (d : Block). isAdmittedBlock d ≡ true) (blocksFrom s ps)
+unfolding blocksFrom
+blocks-fit [] s k f = tt
+blocks-fit (p ∷ ps) s k f =
+    let x = feedPage s p in
+    let on : Collecting (x .state) = sound-fed s p k in
+    each-append (λ (d : Block). isAdmittedBlock d ≡ true) (blocksIn (x .answer) (x .state) (p .satellite)) (blocksFrom (x .state) ps)
+    (go (x .answer) (block-long (hkrootOf (x .state) (p .satellite)) (hkroot-long (x .state) (p .satellite) on (f .0 .some) (f .0 .few))))
+    (blocks-fit ps (x .state) on (f .1))
+  where
+    t : Subframes
+    t = feedPage s p .state
+
+    go : (a : Answer) → isAdmittedBlock (blockIn (hkrootOf t (p .satellite))) ≡ true
+        → Each (λ (d : Block). isAdmittedBlock d ≡ true) (blocksIn a t (p .satellite))
+    go (refused q) h = tt
+    go nothing h = tt
+    go (gives l) h = (h, tt)
+
+pages-fit : {b : Beginning} {c : PageReplay} {h m d : List ℕ} {pages : List (List ℕ)} {subframes : List Time} {dsms : List Dsm}
+    → History b c h m d pages subframes dsms → Each Fits (pagesFed b pages)
+unfolding fedFrom
+pages-fit {b} {pages = pages} k = go (ℕ-discrete (refusedStart b) 0)
+  where
+    go : Dec (refusedStart b ≡ 0) → Each Fits (pagesFed b pages)
+    go (yes z) =
+        let f = good-new (new-first k) z .sound in
+        fed-fit pages (b .replay .satellite) (record { week = b .replay .week; time = b .replay .time }) (f .some) (f .few) (f .in-weeks) (f .in-week)
+    go (no ne) = subst⁻¹ (λ (ps : List (List ℕ)). Each Fits (pagesFed b ps)) (never k ne) tt
 
 -- Every answer of the subframe collector's definition is one of its code's, so that each page is a call.
 abbrev Coded : Answer → Type 0
@@ -396,6 +567,11 @@ replay-recovers b c h m d pages subframes dsms k =
       dsms-answered =
           ap (λ (r : Run). r .dsms) e ∙ f .dsms-done ∙ ap (dsmsFrom (first b .dsms)) blocks
           ∙ ap (λ (s : Dsms). dsmsFrom s (blocksFed b pages)) (n .new-dsms);
+      page-admitted = λ ps qs p g. fits-admitted p (each-at Fits ps qs p (subst (λ (l : List Page). Each Fits l) g (pages-fit k)));
+      block-admitted = λ cs es x g.
+          each-at (λ (y : Block). isAdmittedBlock y ≡ true) cs es x
+          (subst (λ (l : List Block). Each (λ (y : Block). isAdmittedBlock y ≡ true) l) g
+          (blocks-fit (pagesFed b pages) (firstSubframes b) (sound-new b n) (pages-fit k)));
       page-recovers = λ ps qs p g. subframes-recover (b .hkroot) (b .mack) (n .h540) (n .m2160) ps p;
       block-recovers = λ cs es x g. dsm-recovers (b .memory) (n .d208) cs x;
       subframe-history =

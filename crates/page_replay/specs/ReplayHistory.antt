@@ -2,24 +2,26 @@
 -- "A collector, new at the start, recovers. Let pages be lost, doubled, reordered or altered, the clock jump and calls be refused, with record and memory
 -- changed by these calls only."
 -- Assumes nothing.
-use Prim.Native.Nat.{ℕ}
+use Prim.Native.Nat.{ℕ, _≤_, min}
 use mathlib.Core.List.{List, [], _∷_, _++_}
-use mathlib.Core.Bool.{false, cond}
+use mathlib.Core.Bool.{true, false, cond}
 use mathlib.Core.Path.{_≡_}
 use lib.ListN.{length, getD, take, drop, replicate}
-use Rattle.layouts.specs.Answer.{Answer, refused, nothing, gives}
+use lib.Dec.{ltb}
+use Rattle.layouts.specs.Answer.{Answer, refused, nothing, gives, refusal}
+use Rattle.layouts.specs.Gst.{svnGstChecks}
 use Rattle.layouts.specs.InavPage.{isCounted, osnma}
 use Rattle.subframes.specs.Subframe.{Page, State as Subframes, new as newSubframes, feed as feedPage}
 use Rattle.subframes.specs.SubframePromises.{state as subframeState}
-use Rattle.subframes.specs.SubframeRecovery.{after as afterPages, run as runOfPages, Recovers as PageRecovers}
+use Rattle.subframes.specs.SubframeRecovery.{isAdmitted as isAdmittedPage, after as afterPages, run as runOfPages, Recovers as PageRecovers}
 use Rattle.subframes.specs.SubframeHistory.{History as SubframeHistory}
 use Rattle.dsms.specs.Dsm.{State as Dsms, new as newDsms}
 use Rattle.dsms.specs.DsmPromises.{state as dsmState}
-use Rattle.dsms.specs.DsmRecovery.{Call as Block, fedTo, after as afterBlocks, run as runOfBlocks, Recovers as BlockRecovers}
+use Rattle.dsms.specs.DsmRecovery.{Call as Block, isAdmitted as isAdmittedBlock, fedTo, after as afterBlocks, run as runOfBlocks, Recovers as BlockRecovers}
 use Rattle.dsms.specs.DsmHistory.{History as DsmHistory}
-use Rattle.page_replay.specs.Replay.{Time, later, Dsm, Run, hkrootOf, subframesIn, dsmsIn, pagesOf, replayed}
+use Rattle.page_replay.specs.Replay.{Time, later, Dsm, Run, hkrootOf, subframesIn, dsmsIn, pagesOf, wholePages, most, replayed}
 use Rattle.page_replay.specs.Pieces.{goodPage}
-use Rattle.page_replay.specs.ReplayPromises.{state, meaning-subframes, meaning-dsms, BeginReplay, ReplayPages}
+use Rattle.page_replay.specs.ReplayPromises.{state, meaning-replay, meaning-subframes, meaning-dsms, BeginReplay, ReplayPages}
 use Rattle.page_replay.specs.declared.replay.PageReplay.{PageReplay}
 use Rattle.page_replay.specs.declared.replay.Begun.{Begun}
 use Rattle.page_replay.specs.declared.replay.Begun.the-variants.{Ready}
@@ -122,6 +124,9 @@ pub record Recovered (b : Beginning) (c : PageReplay) (hkroot mack memory : List
     pub dsms-are : dsmState (c .dsms) memory ≡ afterBlocks (firstDsms b) (blocksFed b pages)
     pub subframes-answered : subframes ≡ subframesFrom (firstSubframes b) (pagesFed b pages)
     pub dsms-answered : dsms ≡ dsmsFrom (firstDsms b) (blocksFed b pages)
+    -- the collectors refuse none of them
+    pub page-admitted : (ps qs : List Page) (p : Page) → pagesFed b pages ≡ ps ++ (p ∷ qs) → isAdmittedPage p ≡ true
+    pub block-admitted : (cs es : List Block) (d : Block) → blocksFed b pages ≡ cs ++ (d ∷ es) → isAdmittedBlock d ≡ true
     -- each page and each block recovers: "In it all answers and completed messages are those a new collector gives. .."
     pub page-recovers : (ps qs : List Page) (p : Page) → pagesFed b pages ≡ ps ++ (p ∷ qs)
         → let s = afterPages (firstSubframes b) ps in PageRecovers s (runOfPages ps) p (feedPage s p)
@@ -136,6 +141,22 @@ abbrev pub ReplayRecovers : Type 0
 ReplayRecovers =
     (b : Beginning) (c : PageReplay) (hkroot mack memory : List ℕ) (pages : List (List ℕ)) (subframes : List Time) (dsms : List Dsm)
     → History b c hkroot mack memory pages subframes dsms → Recovered b c hkroot mack memory pages subframes dsms
+
+-- A call after a history gets its number: 7 for a budget above 15 and no other, as long as no total can be above 2^62; 12 always, where `new` was refused.
+abbrev pub refusedStart : Beginning → ℕ
+refusedStart b = refusal (svnGstChecks (b .replay .satellite) (b .replay .week) (b .replay .time))
+
+pub record CallAnswers (b : Beginning) (pages : List (List ℕ)) (bytes : List ℕ) (budget : ℕ) (r : Replayed) : Type 0 where
+  pub in-range : refusedStart b ≡ 0 → length pages ≤ most
+      → meaning-replay (r .answer) ≡ cond (ltb 15 budget) (refused 7) (gives (min budget (wholePages bytes) ∷ []))
+  pub never-began : (refusedStart b ≡ 0 → ⊥) → (pages ≡ []) × (r .answer ≡ Refused 12)
+
+abbrev pub CallsAnswered : Type 0
+CallsAnswered =
+    (b : Beginning) (c : PageReplay) (hkroot mack memory : List ℕ) (pages : List (List ℕ)) (subframes : List Time) (dsms : List Dsm)
+    → History b c hkroot mack memory pages subframes dsms
+    → (bytes : List ℕ) (budget : ℕ) (r : Replayed) (hkroot′ mack′ memory′ : List ℕ)
+    → ReplayPages c hkroot mack memory bytes budget r hkroot′ mack′ memory′ → CallAnswers b pages bytes budget r
 
 -- A call of which any record was handed in, that is refused: record and lent bytes are as before.
 pub record Unchanged (c : PageReplay) (hkroot mack memory : List ℕ) (r : Replayed) (hkroot′ mack′ memory′ : List ℕ) : Type 0 where
