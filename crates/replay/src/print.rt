@@ -1,9 +1,9 @@
 // What the program writes. Each function answers whether all of it was written, and says so on standard error where it was not.
-use collectors::replay::DsmDone;
-use collectors::replay::PageReplay;
-use collectors::replay::SubframeDone;
 use libc::STDERR_FILENO;
 use libc::STDOUT_FILENO;
+use page_replay::replay::DsmDone;
+use page_replay::replay::PageReplay;
+use page_replay::replay::SubframeDone;
 use texts::lines;
 
 fn line(bytes: &[u8]) -> bool {

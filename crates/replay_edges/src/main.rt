@@ -1,4 +1,4 @@
-// Runs the edges of a page replay through `collectors::replay` and writes what each comes to; the file `stdout` has what
+// Runs the edges of a page replay through `page_replay::replay` and writes what each comes to; the file `stdout` has what
 // document 01 makes of it.
 mod edges;
 mod pages;

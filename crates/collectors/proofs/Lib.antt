@@ -1,7 +1,0 @@
-pub mod Edges
-pub mod PageFold
-pub mod PagePieces
-pub mod PageRefusals
-pub mod PageSteps
-pub mod ReplayUnique
-pub mod Taken

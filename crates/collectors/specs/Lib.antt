@@ -1,5 +1,0 @@
-pub mod Edges
-pub mod Pieces
-pub mod Replay
-pub mod ReplayInner
-pub mod ReplayPromises
