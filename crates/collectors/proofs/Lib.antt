@@ -1,4 +1,3 @@
-pub mod Edges
 pub mod PageFold
 pub mod PagePieces
 pub mod PageRefusals

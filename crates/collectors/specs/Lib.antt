@@ -1,4 +1,3 @@
-pub mod Edges
 pub mod Pieces
 pub mod Replay
 pub mod ReplayInner

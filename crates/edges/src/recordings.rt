@@ -1,4 +1,4 @@
-// The edges: runs of pages, and what each comes to.
+// Recordings of good pages, alert pages and a DSM's blocks, and what each comes to.
 use crate::pages;
 use crate::print;
 use crate::runs;
