@@ -2,10 +2,10 @@
 -- Assumes nothing.
 use mathlib.Core.Path.{refl}
 use Rattle.layouts.specs.Answer.{answered, refusal}
-use Rattle.layouts.specs.Bits.{field, bit}
+use Rattle.layouts.specs.Bits.{field, bit, bytesFrom}
 use Rattle.layouts.specs.Sizes.{krootBlocks, pkrBlocks, keySizes, tagSizes, ecdsaFunctions}
 use Rattle.layouts.specs.DsmKroot.{padding-to-block, signature-length, ecdsaFunction}
-use Rattle.layouts.specs.Mack.{listed, nt, bytesFrom, keyCopied}
+use Rattle.layouts.specs.Mack.{listed, nt, keyCopied}
 use Rattle.layouts.specs.Maclt.{table, entry, flxIndices}
 use Rattle.edges.specs.Edges.{EdgesHold, OnesLie}
 
