@@ -1,32 +1,35 @@
 -- What the manual says, beside the promises.
 -- Assumes nothing.
-use mathlib.Core.Path.{_≡_, refl, sym, ap, _∙_}
+use mathlib.Core.Path.{_≡_, refl}
 use mathlib.Core.Bool.{Bool, true, false, cond}
 use mathlib.Core.List.{List, [], _∷_, _++_, map}
-use Prim.Native.Nat.{ℕ, _+_, _-_, _*_, _/_, _%_, _≤_, _<_}
+use Prim.Native.Nat.{ℕ, _+_, _-_, _*_, _/_, _≤_, _<_}
 use native.Mathlib.Omega.{arith}
 use lib.Dec.{ltb, eqb}
 use lib.ListN.{length}
-use borrow.Author.Tests.{lt-ltb, le-ltb, eq-eqb, ne-eqb, eqb-true, eqb-false, ltb-true, ltb-false}
+use borrow.Author.Tests.{eq-eqb, eqb-true, eqb-false, ltb-true, ltb-false}
 use Rattle.layouts.specs.Answer.{gives, Check, _when_, refusal, answered}
-use Rattle.layouts.specs.Bits.{Field, reach}
 use Rattle.layouts.specs.Sizes.{krootBlocks, pkrBlocks, keySizes, tagSizes}
 use Rattle.layouts.specs.DsmKroot as kroot
 use Rattle.layouts.specs.DsmPkr as pkr
-use Rattle.layouts.specs.Mack.{listed, nt}
-use Rattle.layouts.specs.Maclt.{table}
+use Rattle.layouts.specs.Mack.{listed, nt, keyChecks, keyCopied}
+use Rattle.layouts.specs.Maclt as paper
 use Rattle.layouts.proofs.Fields.{field-lt}
 use Rattle.layouts.proofs.Answers.{converse}
 use Rattle.layouts.proofs.Readers.{part-first, part-many, part-inside}
 use Rattle.layouts.proofs.Kroot.{padding-few}
-use Rattle.firmware.specs.Outcome.{One, one, Two, two}
+use Rattle.firmware.specs.Outcome.{One, one, Two, two, Slot, slot, Bytes, bytes, Counted, counted}
 use Rattle.firmware.specs.Manual as manual
 
-told : (b : Bool) (q v before : ℕ) → eqb q 0 ≡ b
-    → one before (answered q (gives (v ∷ []))) ≡ cond {A = One} b (record { refusal = 0; value = v }) (record { refusal = q; value = before })
+-- each by whether something is refused
+told : (b : Bool) (q v a : ℕ) → eqb q 0 ≡ b
+    → one a (answered q (gives (v ∷ []))) ≡ cond {A = One} b (record { refusal = 0; value = v }) (record { refusal = q; value = a })
 unfolding one answered
-told true q v before e = rw e
-told false q v before e = rw e
+told true q v a e = rw e
+told false q v a e = rw e
+
+pub one-written : manual.OneWritten
+one-written q v a = told (eqb q 0) q v a refl
 
 placed : (b : Bool) (q f n x y : ℕ) → eqb q 0 ≡ b
     → two x y (answered q (gives (f ∷ n ∷ [])))
@@ -35,8 +38,40 @@ unfolding two answered
 placed true q f n x y e = rw e
 placed false q f n x y e = rw e
 
-pub writes-all-or-nothing : manual.WritesAllOrNothing
-writes-all-or-nothing = (λ q v before. told (eqb q 0) q v before refl, λ q f n a b. placed (eqb q 0) q f n a b refl)
+pub two-written : manual.TwoWritten
+two-written q f n a b = placed (eqb q 0) q f n a b refl
+
+slotted : (d : Bool) (q a b c : ℕ) (s : paper.Slot) → eqb q 0 ≡ d
+    → slot a b c (answered q (gives (paper.numbers s)))
+    ≡ cond {A = Slot} d (manual.slotTold s) (record { refusal = q; flex = a; adkd = b; object = c })
+unfolding slot answered
+slotted true q a b c (paper.fixed k o) e = rw e
+slotted true q a b c paper.flex e = rw e
+slotted false q a b c s e = rw e
+
+pub slot-written : manual.SlotWritten
+slot-written q a b c s = slotted (eqb q 0) q a b c s refl
+
+copied : (d : Bool) (q : ℕ) (now out : List ℕ) → eqb q 0 ≡ d
+    → bytes (record { answer = answered q (gives []); bytes = cond d now out })
+    ≡ cond {A = Bytes} d (record { refusal = 0; bytes = now }) (record { refusal = q; bytes = out })
+unfolding bytes answered
+copied true q now out e = rw e
+copied false q now out e = rw e
+
+pub key-written : manual.KeyWritten
+unfolding keyCopied
+key-written m k T out = copied (eqb (refusal (keyChecks m k T out)) 0) (refusal (keyChecks m k T out)) _ out refl
+
+counts : (d : Bool) (q v a : ℕ) (now held : List ℕ) → eqb q 0 ≡ d
+    → counted a held (record { answer = answered q (gives (v ∷ [])); bytes = now })
+    ≡ cond {A = Counted} d (record { refusal = 0; value = v; bytes = now }) (record { refusal = q; value = a; bytes = held })
+unfolding counted answered
+counts true q v a now held e = rw e
+counts false q v a now held e = rw e
+
+pub counted-written : manual.CountedWritten
+counted-written q v a now held = counts (eqb q 0) q v a now held refl
 
 -- the first check's number, or what the rest refuses with
 module _ (n : ℕ) (ns : List ℕ) where
@@ -174,15 +209,15 @@ unfolding nt keySizes tagSizes
 num-tags-of = refl
 
 pub known-ids : manual.KnownIds
-unfolding table
+unfolding paper.table
 known-ids = refl
 
 pub nt-of-ids : manual.NtOfIds
-unfolding table
+unfolding paper.table
 nt-of-ids = refl
 
 pub none-odd : manual.NoneOdd
-unfolding table listed
+unfolding paper.table listed
 none-odd = refl
 
 pub dsm-bytes : manual.DsmBytes

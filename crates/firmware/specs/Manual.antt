@@ -8,23 +8,54 @@ use mathlib.Core.Path.{_≡_}
 use lib.ListN.{length}
 use lib.Dec.{ltb, eqb}
 use Rattle.layouts.specs.Answer.{Answer, gives, Check, refusal, answered}
-use Rattle.layouts.specs.Bits.{Field, value, reach}
+use Rattle.layouts.specs.Bits.{Field, value, reach, bytesFrom}
 use Rattle.layouts.specs.Sizes.{Size, size, krootBlocks, pkrBlocks, keySizes, tagSizes}
 use Rattle.layouts.specs.DsmKroot as kroot
 use Rattle.layouts.specs.DsmPkr as pkr
-use Rattle.layouts.specs.Mack.{sizesOf, listed, nt}
-use Rattle.layouts.specs.Maclt.{Slot, fixed, flex, Row, table}
-use Rattle.firmware.specs.Outcome.{One, one, Two, two}
+use Rattle.layouts.specs.Mack.{sizesOf, listed, nt, keyChecks, keyStart, keyCopied}
+use Rattle.layouts.specs.Maclt as paper
+use Rattle.firmware.specs.Outcome.{One, one, Two, two, Slot, slot, Bytes, bytes, Counted, counted}
 
--- "A function returns 0 and writes every result, or it returns the number of a refusal and writes nothing."
-abbrev pub WritesAllOrNothing : Type 0
-WritesAllOrNothing =
-    ((q v before : ℕ)
-    → one before (answered q (gives (v ∷ [])))
-    ≡ cond {A = One} (eqb q 0) (record { refusal = 0; value = v }) (record { refusal = q; value = before }))
-    × ((q f n a b : ℕ)
+-- "A function returns 0 and writes every result, or it returns the number of a refusal and writes nothing": lent one number, two, a slot's three,
+-- a key's bytes, or a number and four bytes; q is the refusal number
+abbrev pub OneWritten : Type 0
+OneWritten =
+    (q v a : ℕ)
+    → one a (answered q (gives (v ∷ [])))
+    ≡ cond {A = One} (eqb q 0) (record { refusal = 0; value = v }) (record { refusal = q; value = a })
+
+abbrev pub TwoWritten : Type 0
+TwoWritten =
+    (q f n a b : ℕ)
     → two a b (answered q (gives (f ∷ n ∷ [])))
-    ≡ cond {A = Two} (eqb q 0) (record { refusal = 0; first = f; many = n }) (record { refusal = q; first = a; many = b }))
+    ≡ cond {A = Two} (eqb q 0) (record { refusal = 0; first = f; many = n }) (record { refusal = q; first = a; many = b })
+
+-- "flex is 1 for FLX, and then adkd and object are 0. Else flex is 0, .."
+abbrev pub slotTold : paper.Slot → Slot
+slotTold (paper.fixed k o) = record { refusal = 0; flex = 0; adkd = k; object = o }
+slotTold paper.flex = record { refusal = 0; flex = 1; adkd = 0; object = 0 }
+
+abbrev pub SlotWritten : Type 0
+SlotWritten =
+    (q a b c : ℕ) (s : paper.Slot)
+    → slot a b c (answered q (gives (paper.numbers s)))
+    ≡ cond {A = Slot} (eqb q 0) (slotTold s) (record { refusal = q; flex = a; adkd = b; object = c })
+
+abbrev pub KeyWritten : Type 0
+KeyWritten =
+    (m : List ℕ) (k T : ℕ) (out : List ℕ)
+    → bytes (keyCopied m k T out)
+    ≡ cond
+    {A = Bytes}
+    (eqb (refusal (keyChecks m k T out)) 0)
+    (record { refusal = 0; bytes = bytesFrom m (keyStart k T) k })
+    (record { refusal = refusal (keyChecks m k T out); bytes = out })
+
+abbrev pub CountedWritten : Type 0
+CountedWritten =
+    (q v a : ℕ) (now held : List ℕ)
+    → counted a held (record { answer = answered q (gives (v ∷ [])); bytes = now })
+    ≡ cond {A = Counted} (eqb q 0) (record { refusal = 0; value = v; bytes = now }) (record { refusal = q; value = a; bytes = held })
 
 -- "No other comes up": a refusal is one of the numbers of the checks
 abbrev pub NoOther : Type 0
@@ -104,24 +135,24 @@ NumTagsOf =
 
 -- "Known IDs: 27, 28, 31, 33 to 41"; "nt of an ID: 4, 5, 6 or 10"
 abbrev pub KnownIds : Type 0
-KnownIds = map (λ (r : Row). r .id) table ≡ 27 ∷ 28 ∷ 31 ∷ 33 ∷ 34 ∷ 35 ∷ 36 ∷ 37 ∷ 38 ∷ 39 ∷ 40 ∷ 41 ∷ []
+KnownIds = map (λ (r : paper.Row). r .id) paper.table ≡ 27 ∷ 28 ∷ 31 ∷ 33 ∷ 34 ∷ 35 ∷ 36 ∷ 37 ∷ 38 ∷ 39 ∷ 40 ∷ 41 ∷ []
 
 abbrev pub NtOfIds : Type 0
-NtOfIds = map (λ (r : Row). r .nt) table ≡ 6 ∷ 10 ∷ 5 ∷ 6 ∷ 6 ∷ 6 ∷ 5 ∷ 5 ∷ 5 ∷ 4 ∷ 4 ∷ 4 ∷ []
+NtOfIds = map (λ (r : paper.Row). r .nt) paper.table ≡ 6 ∷ 10 ∷ 5 ∷ 6 ∷ 6 ∷ 6 ∷ 5 ∷ 5 ∷ 5 ∷ 4 ∷ 4 ∷ 4 ∷ []
 
 -- "adkd is 0, 4 or 12 and object is 0 or 1": the slots of the table that are none of these
-abbrev pub odd : List Slot → List Slot
+abbrev pub odd : List paper.Slot → List paper.Slot
 odd [] = []
-odd (flex ∷ ss) = odd ss
-odd (fixed adkd object ∷ ss) =
-    cond (listed adkd (0 ∷ 4 ∷ 12 ∷ [])) (cond (ltb object 2) (odd ss) (fixed adkd object ∷ odd ss)) (fixed adkd object ∷ odd ss)
+odd (paper.flex ∷ ss) = odd ss
+odd (paper.fixed adkd object ∷ ss) =
+    cond (listed adkd (0 ∷ 4 ∷ 12 ∷ [])) (cond (ltb object 2) (odd ss) (paper.fixed adkd object ∷ odd ss)) (paper.fixed adkd object ∷ odd ss)
 
-abbrev pub oddOf : List Row → List Slot
+abbrev pub oddOf : List paper.Row → List paper.Slot
 oddOf [] = []
 oddOf (r ∷ rs) = odd (r .message0) ++ odd (r .message1) ++ oddOf rs
 
 abbrev pub NoneOdd : Type 0
-NoneOdd = oddOf table ≡ []
+NoneOdd = oddOf paper.table ≡ []
 
 -- OSNMA_DSM_MAX_BYTES 208, OSNMA_MAX_KEY_BYTES 32: 13 bytes for each block, and the bytes of a TESLA key
 abbrev pub DsmBytes : Type 0
