@@ -3,7 +3,8 @@
  * The functions take fields out of messages that the receiver has put together: the NMA header, the
  * DSM header, DSM-KROOT, DSM-PKR and MACK messages; and they look up the MAC look-up table. No
  * signature, hash or key is checked here: that a message can be read does not make it genuine.
- * Names of fields are those of the OSNMA SIS ICD v1.1.
+ * Names of fields are those of the OSNMA SIS ICD v1.1 as the Rust galileo-osnma gives them. DSM_ID,
+ * DSM_BLOCK_ID, WN_K, TOWH_K, ITN and P_DP, for which it has none, are named here.
  *
  *     uint64_t week;
  *     uint32_t refusal = osnma_kroot_wn(msg, len, &week);
@@ -18,10 +19,13 @@
  *   it holds, it is answered or refused. Bits are numbered from 0, the high bit of byte 0.
  * - A part of a message comes back as first and many: it is the many bytes from msg + first on, and
  *   lies inside the message. many can be 0, as for padding: that is a good answer.
- * - A field that the ICD reserves in part is given as it stands, reserved numbers too, unless it
- *   says a size or a count: then a reserved number is refused with 6.
+ * - A field some of whose numbers are reserved is given as it stands, reserved numbers too, unless
+ *   it says a size or a count: then a reserved number is refused with 6.
  * - Nothing is kept between calls and no memory is allocated. Every call ends. The functions may be
  *   called from any thread and from interrupts, also while another call runs.
+ * - A call takes at most 128 bytes of stack, its return address among them (measured: 48). They may
+ *   lie below the stack pointer, in the red zone of the calling convention: whoever interrupts a
+ *   call leaves it alone. Vector registers are used, as by any function of that convention.
  *
  * What the caller must see to, since the functions cannot test it
  * - msg points to len bytes that may be read; out and positions to as many bytes as the length that
@@ -162,7 +166,7 @@ uint32_t osnma_chain_and_pubkey_status(uint64_t header, uint64_t *value);
 /* DSM_ID, bits 0..3: 0..15. Refuses: 7 header above 255. */
 uint32_t osnma_dsm_id(uint64_t header, uint64_t *value);
 
-/* DSM_BID, the number of the block, bits 4..7: 0..15. Refuses: 7 header above 255. */
+/* DSM_BLOCK_ID, the number of the block, bits 4..7: 0..15. Refuses: 7 header above 255. */
 uint32_t osnma_dsm_block_id(uint64_t header, uint64_t *value);
 
 /* The type that goes with DSM_ID: enum osnma_dsm. Refuses: 7 header above 255. */

@@ -27,7 +27,7 @@ use Rattle.layouts.specs.declared.maclt.MacLTSlot.{MacLTSlot}
 use Rattle.layouts.specs.declared.maclt.MacLTSlot.the-variants.{Fixed, Flex}
 use Rattle.layouts.specs.declared.maclt.MacLTSlotAnswer.{MacLTSlotAnswer}
 use Rattle.layouts.specs.declared.maclt.MacLTSlotAnswer.the-variants.{Slot as SlotIs, Refused as SlotRefused}
-use Rattle.firmware.specs.Outcome.{One, one, Two, two, Slot, slot, Bytes, bytes, Counted, counted}
+use Rattle.firmware.specs.Outcome.{One, one, Told, Two, two, Placed, slot, Slotted, Bytes, bytes, Counted, counted}
 use Rattle.layouts.specs.Maclt.{Row, row, table, rowOf, entry, flxIndices, ntOf}
 use Rattle.firmware.specs.Arguments.{ofHeader, SameId}
 
@@ -39,28 +39,28 @@ pub placed-by : (a b : ℕ) {x y : Answer} {o : Two} → x ≡ y → o ≡ two a
 placed-by a b e h = h ∙ ap (two a b) e
 
 -- each case of an answer
-pub value-told : (b : ℕ) {x : Number} {v : ℕ} → x ≡ Value v → _≡_ {A = One} (record { refusal = 0; value = v }) (one b (meaning-number x))
+pub value-told : (b : ℕ) {x : Number} {v : ℕ} → x ≡ Value v → Told b 0 v (meaning-number x)
 unfolding one
 value-told b e = rw e
 
-pub refusal-told : (b : ℕ) {x : Number} {n : ℕ} → x ≡ Refused n → _≡_ {A = One} (record { refusal = n; value = b }) (one b (meaning-number x))
+pub refusal-told : (b : ℕ) {x : Number} {n : ℕ} → x ≡ Refused n → Told b n b (meaning-number x)
 unfolding one
 refusal-told b e = rw e
 
-pub part-told : (a b : ℕ) {x : Part} {f n : ℕ} → x ≡ Shown f n → _≡_ {A = Two} (record { refusal = 0; first = f; many = n }) (two a b (meaning-part x))
+pub part-told : (a b : ℕ) {x : Part} {f n : ℕ} → x ≡ Shown f n → Placed a b 0 f n (meaning-part x)
 unfolding two
 part-told a b e = rw e
 
-pub no-part-told : (a b : ℕ) {x : Part} {n : ℕ} → x ≡ NotShown n → _≡_ {A = Two} (record { refusal = n; first = a; many = b }) (two a b (meaning-part x))
+pub no-part-told : (a b : ℕ) {x : Part} {n : ℕ} → x ≡ NotShown n → Placed a b n a b (meaning-part x)
 unfolding two
 no-part-told a b e = rw e
 
 -- a header that is no byte, and one that is
-pub header-wide : (b h : ℕ) (l : List ℕ) → 255 < h → _≡_ {A = One} (record { refusal = 7; value = b }) (one b (ofHeader h l))
+pub header-wide : (b h : ℕ) (l : List ℕ) → 255 < h → Told b 7 b (ofHeader h l)
 unfolding one answered refusal
 header-wide b h l w = rw (lt-ltb 255 h w)
 
-pub header-told : (b h : ℕ) {v w : ℕ} → h ≤ 255 → v ≡ w → _≡_ {A = One} (record { refusal = 0; value = v }) (one b (ofHeader h (w ∷ [])))
+pub header-told : (b h : ℕ) {v w : ℕ} → h ≤ 255 → v ≡ w → Told b 0 v (ofHeader h (w ∷ []))
 unfolding one answered refusal
 header-told b h n e = rw (le-ltb 255 h n, e)
 
@@ -68,20 +68,20 @@ header-told b h n e = rw (le-ltb 255 h n, e)
 pub same-number : {v w : ℕ} {a : Answer} → gives (v ∷ []) ≡ a → a ≡ gives (w ∷ []) → v ≡ w
 same-number e f = let g : gives (_ ∷ []) ≡ gives (_ ∷ []) = e ∙ f in cc
 
-pub p256-told : (b : ℕ) {x : EcdsaFunctionAnswer} {f : EcdsaFunction} → x ≡ EcdsaIs f → f ≡ P256Sha256 → _≡_ {A = One} (record { refusal = 0; value = 256 }) (one b (meaning-ecdsa x))
+pub p256-told : (b : ℕ) {x : EcdsaFunctionAnswer} {f : EcdsaFunction} → x ≡ EcdsaIs f → f ≡ P256Sha256 → Told b 0 256 (meaning-ecdsa x)
 unfolding one
 p256-told b e g = rw (e, g)
 
-pub p521-told : (b : ℕ) {x : EcdsaFunctionAnswer} {f : EcdsaFunction} → x ≡ EcdsaIs f → f ≡ P521Sha512 → _≡_ {A = One} (record { refusal = 0; value = 521 }) (one b (meaning-ecdsa x))
+pub p521-told : (b : ℕ) {x : EcdsaFunctionAnswer} {f : EcdsaFunction} → x ≡ EcdsaIs f → f ≡ P521Sha512 → Told b 0 521 (meaning-ecdsa x)
 unfolding one
 p521-told b e g = rw (e, g)
 
-pub no-ecdsa-told : (b : ℕ) {x : EcdsaFunctionAnswer} {n : ℕ} → x ≡ EcdsaRefused n → _≡_ {A = One} (record { refusal = n; value = b }) (one b (meaning-ecdsa x))
+pub no-ecdsa-told : (b : ℕ) {x : EcdsaFunctionAnswer} {n : ℕ} → x ≡ EcdsaRefused n → Told b n b (meaning-ecdsa x)
 unfolding one
 no-ecdsa-told b e = rw e
 
 -- a slot
-of-numbers : (a b c : ℕ) (k : Adkd) (o : ℕ) → _≡_ {A = Slot} (record { refusal = 0; flex = 0; adkd = getD (adkd-numbers k) 0 0; object = o }) (slot a b c (gives (adkd-numbers k ++ (o ∷ []))))
+of-numbers : (a b c : ℕ) (k : Adkd) (o : ℕ) → Slotted a b c 0 0 (getD (adkd-numbers k) 0 0) o (gives (adkd-numbers k ++ (o ∷ [])))
 unfolding slot
 of-numbers a b c InavCed o = refl
 of-numbers a b c InavTiming o = refl
@@ -89,16 +89,16 @@ of-numbers a b c SlowMac o = refl
 of-numbers a b c AdkdReserved o = refl
 
 module _ (a b c : ℕ) {x : MacLTSlotAnswer} where
-  pub no-slot-told : {n : ℕ} → x ≡ SlotRefused n → _≡_ {A = Slot} (record { refusal = n; flex = a; adkd = b; object = c }) (slot a b c (meaning-slot x))
+  pub no-slot-told : {n : ℕ} → x ≡ SlotRefused n → Slotted a b c n a b c (meaning-slot x)
   unfolding slot
   no-slot-told e = rw e
 
-  pub flex-told : {s : MacLTSlot} → x ≡ SlotIs s → s ≡ Flex → _≡_ {A = Slot} (record { refusal = 0; flex = 1; adkd = 0; object = 0 }) (slot a b c (meaning-slot x))
+  pub flex-told : {s : MacLTSlot} → x ≡ SlotIs s → s ≡ Flex → Slotted a b c 0 1 0 0 (meaning-slot x)
   unfolding slot
   flex-told e g = rw (e, g)
 
   pub fixed-told : {s : MacLTSlot} {k : Adkd} {o : AuthObject} {v w : ℕ} → x ≡ SlotIs s → s ≡ Fixed k o → v ≡ getD (adkd-numbers k) 0 0 → w ≡ object-number o
-      → _≡_ {A = Slot} (record { refusal = 0; flex = 0; adkd = v; object = w }) (slot a b c (meaning-slot x))
+      → Slotted a b c 0 0 v w (meaning-slot x)
   fixed-told {k = k} {o = o} e g ev ew = rw (e, g, ev, ew) (of-numbers a b c k (object-number o))
 
 -- bytes that were copied, or not
@@ -121,7 +121,10 @@ abbrev pub Right : ℕ → List ℕ → Copied → Counted → Type 0
 Right before held c o = o ≡ cond (eqb (length held) 4) (counted before held c) (record { refusal = 1; value = before; bytes = held })
 
 module _ (before : ℕ) (held : List ℕ) where
-  pub length-told : (c : Counted) → (length held ≡ 4 → ⊥) → _≡_ {A = Counted} (record { refusal = 1; value = before; bytes = held }) (cond (eqb (length held) 4) c (record { refusal = 1; value = before; bytes = held }))
+  abbrev refused-1 : Counted
+  refused-1 = record { refusal = 1; value = before; bytes = held }
+
+  pub length-told : (c : Counted) → (length held ≡ 4 → ⊥) → refused-1 ≡ cond (eqb (length held) 4) c refused-1
   length-told c ne = rw (ne-eqb (length held) 4 ne)
 
   module _ {x : Number} {l : List ℕ} {c : Copied} (h : length held ≡ 4) (e : _≡_ {A = Copied} (record { answer = meaning-number x; bytes = l }) c) where
@@ -154,7 +157,8 @@ wide-row : (i : ℕ) (rs : List Row) → T (bytes-only rs) → 255 < i → rowOf
 wide-row i [] t h = refl
 wide-row i (r ∷ rs) t h = go (ltb (r .id) 256) refl (λ u. wide-row i rs u h) t
   where
-    go : (b : Bool) → ltb (r .id) 256 ≡ b → (T (bytes-only rs) → rowOf i rs ≡ row i 0 [] []) → T (cond b (bytes-only rs) false) → rowOf i (r ∷ rs) ≡ row i 0 [] []
+    go : (b : Bool) → ltb (r .id) 256 ≡ b → (T (bytes-only rs) → rowOf i rs ≡ row i 0 [] []) → T (cond b (bytes-only rs) false)
+        → rowOf i (r ∷ rs) ≡ row i 0 [] []
     go true e ih t = rw (ne-eqb i (r .id) (λ z. omega (arith, ltb-true (r .id) 256 e))) (ih t)
     go false e ih t = absurd t
 

@@ -6,3 +6,5 @@ pub mod Kroot
 pub mod Pkr
 pub mod Mack
 pub mod Maclt
+pub mod Manual
+pub mod Agreed

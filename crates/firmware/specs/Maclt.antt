@@ -7,11 +7,10 @@ use mathlib.Core.Path.{_≡_}
 use lib.Dec.{eqb}
 use lib.ListN.{length}
 use Rattle.layouts.specs.Maclt.{entry, flxIndices, ntOf}
-use Rattle.firmware.specs.Outcome.{Told, Slot, slot, Counted, counted}
+use Rattle.firmware.specs.Outcome.{Told, Slotted, Counted, counted}
 
 abbrev pub GetMacltEntry : ℕ → ℕ → ℕ → ℕ → ℕ → ℕ → ℕ → ℕ → ℕ → ℕ → Type 0
-GetMacltEntry i message tag a b c r x y z =
-    _≡_ {A = Slot} (record { refusal = r; flex = x; adkd = y; object = z }) (slot a b c (entry i message tag))
+GetMacltEntry i message tag a b c r x y z = Slotted a b c r x y z (entry i message tag)
 
 -- 1 first: the output has four bytes
 abbrev pub GetFlxIndices : ℕ → ℕ → ℕ → List ℕ → ℕ → ℕ → List ℕ → Type 0

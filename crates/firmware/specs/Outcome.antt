@@ -56,6 +56,9 @@ slot a b c (gives []) = record { refusal = 0; flex = 1; adkd = 0; object = 0 }
 slot a b c (gives (v ∷ [])) = record { refusal = 0; flex = 0; adkd = 0; object = v }
 slot a b c (gives (v ∷ w ∷ vs)) = record { refusal = 0; flex = 0; adkd = v; object = w }
 
+abbrev pub Slotted : ℕ → ℕ → ℕ → ℕ → ℕ → ℕ → ℕ → Answer → Type 0
+Slotted a b c r x y z answer = _≡_ {A = Slot} (record { refusal = r; flex = x; adkd = y; object = z }) (slot a b c answer)
+
 -- Lent bytes.
 pub record Bytes : Type 0 where
   pub refusal : ℕ

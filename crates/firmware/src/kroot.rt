@@ -1,7 +1,9 @@
 // DSM-KROOT.
 use crate::tell;
 use layouts::dsm_kroot;
-ghost use Rattle.firmware.specs.Kroot.{KrootNumberOfBlocks, KrootPublicKeyId, KrootChainId, KrootHashFunction, KrootMacFunction, KrootKeySize, KrootTagSize, KrootMacLookupTable, KrootWn, KrootTowh, KrootAlpha, KrootKroot, KrootDigitalSignature, KrootPadding, KrootEcdsaFunction};
+ghost use Rattle.firmware.specs.Kroot.{KrootNumberOfBlocks, KrootPublicKeyId, KrootChainId, KrootHashFunction, KrootMacFunction};
+ghost use Rattle.firmware.specs.Kroot.{KrootKeySize, KrootTagSize, KrootMacLookupTable, KrootWn, KrootTowh, KrootAlpha};
+ghost use Rattle.firmware.specs.Kroot.{KrootKroot, KrootDigitalSignature, KrootPadding, KrootEcdsaFunction};
 
 // NB_DK, as a number of blocks: 5, 6.
 #[no_mangle]

@@ -26,7 +26,8 @@ pub extern "C" fn osnma_get_maclt_entry(
     adkd: &mut u64,
     object: &mut u64,
 ) -> u32
-    ensures { λ r. ⌜ GetMacltEntry id message tag (now (flex .entry)) (now (adkd .entry)) (now (object .entry)) r (now (flex .exit)) (now (adkd .exit)) (now (object .exit)) ⌝ }
+    ensures { λ r. ⌜ GetMacltEntry id message tag (now (flex .entry)) (now (adkd .entry)) (now (object .entry)) r
+        (now (flex .exit)) (now (adkd .exit)) (now (object .exit)) ⌝ }
 {
     tell::slot(
         layouts::maclt::get_maclt_entry(table_id(id), message as usize, tag as usize),

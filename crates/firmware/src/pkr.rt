@@ -1,7 +1,8 @@
 // DSM-PKR.
 use crate::tell;
 use layouts::dsm_pkr;
-ghost use Rattle.firmware.specs.Pkr.{PkrNumberOfBlocks, PkrMessageId, PkrNewPublicKeyType, PkrNewPublicKeyId, PkrKeySize, PkrNewPublicKey, PkrPadding, PkrMerkleTreeLeaf, PkrIntermediateTreeNode};
+ghost use Rattle.firmware.specs.Pkr.{PkrNumberOfBlocks, PkrMessageId, PkrNewPublicKeyType, PkrNewPublicKeyId, PkrKeySize};
+ghost use Rattle.firmware.specs.Pkr.{PkrNewPublicKey, PkrPadding, PkrMerkleTreeLeaf, PkrIntermediateTreeNode};
 
 // NB_DP, as a number of blocks: 5, 6.
 #[no_mangle]

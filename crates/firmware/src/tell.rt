@@ -10,7 +10,7 @@ use layouts::tag_info::Adkd;
 ghost use mathlib.Core.Path.{_≡_};
 ghost use lib.ListN.{getD};
 ghost use Rattle.layouts.specs.Meaning.{meaning-number, meaning-part, meaning-ecdsa, meaning-slot, adkd-numbers, object-number};
-ghost use Rattle.firmware.specs.Outcome.{Told, Placed, Slot, slot as slotOf};
+ghost use Rattle.firmware.specs.Outcome.{Told, Placed, Slotted};
 
 pub(crate) fn number(answer: Number, value: &mut u64) -> u32
     ensures { λ r. ⌜ Told (now (value .entry)) r (now (value .exit)) (meaning-number answer) ⌝ }
@@ -76,7 +76,8 @@ fn object_number_of(object: AuthObject) -> u64
 }
 
 pub(crate) fn slot(answer: MacLTSlotAnswer, flex: &mut u64, adkd: &mut u64, object: &mut u64) -> u32
-    ensures { λ r. ⌜ _≡_ {A = Slot} (record { refusal = r; flex = now (flex .exit); adkd = now (adkd .exit); object = now (object .exit) }) (slotOf (now (flex .entry)) (now (adkd .entry)) (now (object .entry)) (meaning-slot answer)) ⌝ }
+    ensures { λ r. ⌜ Slotted (now (flex .entry)) (now (adkd .entry)) (now (object .entry)) r
+        (now (flex .exit)) (now (adkd .exit)) (now (object .exit)) (meaning-slot answer) ⌝ }
 {
     match answer {
         MacLTSlotAnswer::Refused(n) => n as u32,

@@ -1,7 +1,7 @@
 // The Adler-32 checksum of a file. It shows a change of the bytes of a message that no replayed field reads.
 use crate::records;
 
-pub struct Sum {
+struct Sum {
     a: u64,
     b: u64,
     more: bool,
@@ -49,7 +49,7 @@ fn each(fd: i32) -> Sum {
 }
 
 // 0 where the file cannot be opened, which is no checksum of any file.
-pub fn of_file(path: &[u8]) -> u64 {
+pub(crate) fn of_file(path: &[u8]) -> u64 {
     let fd = os::open_read(path);
     if fd < 0 {
         return 0;

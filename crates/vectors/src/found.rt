@@ -5,7 +5,7 @@ ghost use mathlib.Core.Path.{_≡_};
 ghost use mathlib.Core.Bool.{true};
 ghost use lib.ListN.{take, drop};
 
-pub struct Found {
+pub(crate) struct Found {
     // 0 for none.
     pub refusal: u8,
     pub v0: u64,
@@ -15,7 +15,7 @@ pub struct Found {
     pub fits: bool,
 }
 
-pub fn values(v0: u64, v1: u64, v2: u64, fits: bool) -> Found {
+pub(crate) fn values(v0: u64, v1: u64, v2: u64, fits: bool) -> Found {
     Found {
         refusal: 0,
         v0,
@@ -25,12 +25,12 @@ pub fn values(v0: u64, v1: u64, v2: u64, fits: bool) -> Found {
     }
 }
 
-pub fn value(v: u64) -> Found {
+pub(crate) fn value(v: u64) -> Found {
     values(v, 0, 0, true)
 }
 
 // A refusal is no good answer: its number is not 0.
-pub fn refused(n: u8, fits: bool) -> Found {
+pub(crate) fn refused(n: u8, fits: bool) -> Found {
     Found {
         refusal: n,
         v0: 0,
@@ -41,11 +41,11 @@ pub fn refused(n: u8, fits: bool) -> Found {
 }
 
 // For what no function here answers.
-pub fn nothing() -> Found {
+pub(crate) fn nothing() -> Found {
     refused(255, false)
 }
 
-pub fn number(answer: Number) -> Found {
+pub(crate) fn number(answer: Number) -> Found {
     match answer {
         Number::Value(v) => value(v),
         Number::Refused(n) => refused(n, true),
@@ -53,7 +53,7 @@ pub fn number(answer: Number) -> Found {
 }
 
 // A number whose name was compared.
-pub fn named(number: Found, fits: bool) -> Found {
+pub(crate) fn named(number: Found, fits: bool) -> Found {
     Found {
         refusal: number.refusal,
         v0: number.v0,
@@ -64,12 +64,12 @@ pub fn named(number: Found, fits: bool) -> Found {
 }
 
 // Whether it is the refusal `n`.
-pub fn refuses(number: Found, n: u8) -> bool {
+pub(crate) fn refuses(number: Found, n: u8) -> bool {
     n != 0 && number.refusal == n
 }
 
 // Whether it is the good answer `v`, and fits.
-pub fn is(number: Found, v: u64) -> bool
+pub(crate) fn is(number: Found, v: u64) -> bool
     ensures { λ r. ⌜ (r ≡ true → (number .refusal ≡ 0) × (number .v0 ≡ v) × (number .fits ≡ true)) ⌝ }
 {
     if number.refusal != 0 {
@@ -82,13 +82,13 @@ pub fn is(number: Found, v: u64) -> bool
 }
 
 // Whether it is a good answer that is none of the three.
-pub fn is_other(number: Found, a: u64, b: u64, c: u64) -> bool {
+pub(crate) fn is_other(number: Found, a: u64, b: u64, c: u64) -> bool {
     let v = number.v0;
     number.refusal == 0 && v != a && v != b && v != c
 }
 
 // Whether `bytes` are the `many` bytes of the message from byte `first` on.
-pub fn lies_at(msg: &[u8], first: usize, many: usize, bytes: &[u8]) -> bool
+pub(crate) fn lies_at(msg: &[u8], first: usize, many: usize, bytes: &[u8]) -> bool
     ensures { λ r. ⌜ (r ≡ true → now (bytes .entry) ≡ take many (drop first (now (msg .entry)))) ⌝ }
 {
     if msg.len() < first {
@@ -102,7 +102,7 @@ pub fn lies_at(msg: &[u8], first: usize, many: usize, bytes: &[u8]) -> bool
 }
 
 // A part, beside the bytes that were handed out for it: none where it is refused.
-pub fn part(msg: &[u8], answer: Part, bytes: &[u8]) -> Found {
+pub(crate) fn part(msg: &[u8], answer: Part, bytes: &[u8]) -> Found {
     match answer {
         Part::Refused(n) => refused(n, bytes.len() == 0),
         Part::Shown { first, many } => values(

@@ -32,7 +32,7 @@ fn byte(text: &[u8], i: usize) -> u8
 }
 
 // Writes the bytes of the text from `at` on; none where the message has no room for all.
-pub fn put(msg: &mut [u8], at: usize, text: &[u8]) {
+pub(crate) fn put(msg: &mut [u8], at: usize, text: &[u8]) {
     let many = text.len() / 2;
     if msg.len() < at {
         return;
@@ -48,7 +48,7 @@ pub fn put(msg: &mut [u8], at: usize, text: &[u8]) {
 }
 
 // Whether the text spells these bytes.
-pub fn spells(text: &[u8], bytes: &[u8]) -> bool
+pub(crate) fn spells(text: &[u8], bytes: &[u8]) -> bool
     ensures { λ r. ⌜ (r ≡ true → Spells (now (text .entry)) (now (bytes .entry))) ⌝ }
 {
     if text.len() % 2 != 0 {

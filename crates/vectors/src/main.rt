@@ -1,5 +1,5 @@
-// Holds `layouts` to the recorded answers of the Rust, in the file answers.bin, and to the published values, and `collectors`
-// to its recorded sequences of calls, in the file sequences.bin.
+// Holds `layouts` to the recorded answers of the Rust, in the file answers.bin, and to published values, set into messages of our
+// own making, and the collectors and the store to its recorded sequences of calls, in the file sequences.bin.
 mod checksum;
 mod found;
 mod hex;

@@ -25,7 +25,7 @@ fn answer(refusal: u8, v0: u64, v1: u64, v2: u64) {
 }
 
 // A record that differs, with what it expects and what was found.
-pub fn difference(at: u64, r: Record, f: Found) {
+pub(crate) fn difference(at: u64, r: Record, f: Found) {
     text(b"record ");
     number(at);
     text(b", function ");
@@ -40,28 +40,28 @@ pub fn difference(at: u64, r: Record, f: Found) {
     text(b"\n");
 }
 
-pub fn cut(at: u64) {
+pub(crate) fn cut(at: u64) {
     text(b"record ");
     number(at);
     text(b": the file ends inside it\n");
 }
 
-pub fn endless() {
+pub(crate) fn endless() {
     text(b"the file has more than a million records\n");
 }
 
-pub fn missing(path: &[u8]) {
+pub(crate) fn missing(path: &[u8]) {
     text(path);
     text(b": cannot be opened\n");
 }
 
-pub fn checksum(sum: u64) {
+pub(crate) fn checksum(sum: u64) {
     text(b"checksum of answers.bin: ");
     number(sum);
     text(b"\n");
 }
 
-pub fn summary(t: Tally) {
+pub(crate) fn summary(t: Tally) {
     text(b"recorded answers: ");
     number(tally::total(t.good, t.refused));
     text(b" records (");
@@ -76,27 +76,27 @@ pub fn summary(t: Tally) {
 }
 
 // A published value that the reader does not give.
-pub fn published(name: &[u8]) {
+pub(crate) fn published(name: &[u8]) {
     text(b"published: ");
     text(name);
     text(b" differs\n");
 }
 
-pub fn published_summary(t: Tally) {
-    text(b"published values: ");
+pub(crate) fn published_summary(t: Tally) {
+    text(b"published values, in messages of our own making: ");
     number(t.good);
     text(b" checks, ");
     number(t.differ);
     text(b" differ\n");
 }
 
-pub fn sequences_checksum(sum: u64) {
+pub(crate) fn sequences_checksum(sum: u64) {
     text(b"checksum of sequences.bin: ");
     number(sum);
     text(b"\n");
 }
 
-pub fn sequences_summary(t: Tally) {
+pub(crate) fn sequences_summary(t: Tally) {
     text(b"recorded sequences: ");
     number(tally::total(t.good, t.refused));
     text(b" calls (");

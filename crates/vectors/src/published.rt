@@ -1,4 +1,5 @@
-// The published values, from the annex of the OSNMA Receiver Guidelines v1.3.
+// Values that the annex of the OSNMA Receiver Guidelines v1.3 publishes, as the test suite of gnss-sdr 0.0.20 cites them, set into
+// messages of our own making: no whole message was at hand. What is ours in each is said in its file.
 use crate::found;
 use crate::hex;
 use crate::print;
@@ -10,7 +11,7 @@ use crate::tally::Tally;
 use layouts::answer::Number;
 
 // One check more, with a line where it fails.
-pub fn held(name: &[u8], fits: bool, t: Tally) -> Tally {
+pub(crate) fn held(name: &[u8], fits: bool, t: Tally) -> Tally {
     let t = t.record(0);
     if fits {
         return t;
@@ -19,15 +20,15 @@ pub fn held(name: &[u8], fits: bool, t: Tally) -> Tally {
     t.difference()
 }
 
-pub fn number(name: &[u8], answer: Number, expected: u64, t: Tally) -> Tally {
+pub(crate) fn number(name: &[u8], answer: Number, expected: u64, t: Tally) -> Tally {
     held(name, found::is(found::number(answer), expected), t)
 }
 
-pub fn bytes(name: &[u8], answer: &[u8], text: &[u8], t: Tally) -> Tally {
+pub(crate) fn bytes(name: &[u8], answer: &[u8], text: &[u8], t: Tally) -> Tally {
     held(name, hex::spells(text, answer), t)
 }
 
-pub fn all() -> Tally {
+pub(crate) fn all() -> Tally {
     let t = published_pkr::checks(tally::none());
     let t = published_kroot::checks(t);
     published_mack::checks(t)

@@ -1,4 +1,4 @@
-// A.5.2: the values of a DSM-KROOT message, in a message of 8 blocks.
+// A.5.2: the values of a DSM-KROOT message, set into one of 8 blocks.
 use crate::hex;
 use crate::published;
 use crate::tally::Tally;
@@ -13,7 +13,7 @@ const MESSAGE: [u8; 58] = *b"2000491B04E000\
     5BF8C9CBFCF70422081475FD445DF0FF";
 
 // The signature of 64 bytes and the padding of 11 behind the root key are zeros.
-pub fn checks(t: Tally) -> Tally {
+pub(crate) fn checks(t: Tally) -> Tally {
     let mut msg = [0u8; 104];
     let view: &mut [u8] = &mut msg;
     hex::put(view, 0, &MESSAGE);

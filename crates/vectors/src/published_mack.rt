@@ -1,4 +1,4 @@
-// A.6.5.1: two tags of satellite 2, in a MACK message of 40-bit tags and a key of 128 bits.
+// A.6.5.1: two tags of satellite 2, set into a MACK message of 40-bit tags and a key of 128 bits.
 use crate::found;
 use crate::hex;
 use crate::published;
@@ -44,7 +44,7 @@ fn tag_3(msg: &[u8], t: Tally) -> Tally {
     published::number(b"A.6.5.1 COP", mack::tag_cop(msg, 128, 40, 3), 15, t)
 }
 
-pub fn checks(t: Tally) -> Tally {
+pub(crate) fn checks(t: Tally) -> Tally {
     let mut msg = [0u8; 60];
     let view: &mut [u8] = &mut msg;
     build(view);

@@ -1,4 +1,4 @@
-// A.7: a DSM-PKR message of 13 blocks.
+// A.7: the values of a DSM-PKR message, set into one of 13 blocks, the fewest that a key of 33 bytes fits into.
 use crate::found;
 use crate::hex;
 use crate::published;
@@ -18,11 +18,11 @@ const KEY: [u8; 66] = *b"0303B2CE64BC207BDD8BC4DF859187FCB686320D63FFA091410FC15
 
 const LEAF: [u8; 68] = *b"120303B2CE64BC207BDD8BC4DF859187FCB686320D63FFA091410FC158FBB77980EA";
 
-// Of the padding only the length is published.
+// The padding is ours: the 6 bytes that are left.
 const PADDING: [u8; 12] = *b"A1B2C3D4E5F6";
 
-// NB_DP 7 and message ID 1; the nodes; key type 1 and key ID 2; the key; the padding. Written apart from the values
-// above, so that a slip of the pen in either shows.
+// NB_DP 7, which is ours, and message ID 1; the nodes; key type 1 and key ID 2; the key; the padding. Written apart from the
+// values above, so that a slip of the pen in either shows.
 const MESSAGE: [u8; 338] = *b"71\
     7CBE05D9970CFC9E22D0A43A340EF557624453A2E821AADEAC989C405D78BA06\
     956380BAB0D2C939EC6208151040CCFFCF1FB7156178FD1255BA0AECAAA253F7\
@@ -69,7 +69,7 @@ fn parts(msg: &[u8], t: Tally) -> Tally {
     published::bytes(b"A.7 padding", dsm_pkr::padding(msg), &PADDING, t)
 }
 
-pub fn checks(t: Tally) -> Tally {
+pub(crate) fn checks(t: Tally) -> Tally {
     let mut msg = [0u8; 169];
     let view: &mut [u8] = &mut msg;
     hex::put(view, 0, &MESSAGE);

@@ -5,7 +5,7 @@ ghost use mathlib.Core.Bool.{true};
 ghost use Prim.Native.Nat.{_+_, _*_, _≤_, _<_};
 ghost use Rattle.vectors.specs.Little.{fourOf};
 
-pub struct Record {
+pub(crate) struct Record {
     pub function: u8,
     // The lengths of the message and of the output.
     pub mlen: usize,
@@ -20,14 +20,14 @@ pub struct Record {
     pub v2: u64,
 }
 
-pub enum Next {
+pub(crate) enum Next {
     Whole(Record),
     // The file ends inside a record.
     Cut,
     End,
 }
 
-pub fn wide(x: u8) -> u64
+pub(crate) fn wide(x: u8) -> u64
     ensures { λ r. ⌜ (r ≡ x) × (r < 256) ⌝ }
 {
     x as u64
@@ -69,7 +69,7 @@ fn read(head: &[u8; 40]) -> Record
 }
 
 // The next record of the file; its message and then its output stand at the start of `body`.
-pub fn take(fd: i32, body: &mut [u8]) -> Next {
+pub(crate) fn take(fd: i32, body: &mut [u8]) -> Next {
     let mut head = [0u8; 40];
     let got = io::read_full(fd, &mut head);
     if got == 0 {
@@ -90,7 +90,7 @@ pub fn take(fd: i32, body: &mut [u8]) -> Next {
 }
 
 // Whether the answer is the recorded one.
-pub fn agrees(r: Record, f: Found) -> bool
+pub(crate) fn agrees(r: Record, f: Found) -> bool
     ensures { λ s. ⌜ (s ≡ true → (f .refusal ≡ r .refusal) × (f .v0 ≡ r .v0) × (f .v1 ≡ r .v1) × (f .v2 ≡ r .v2) × (f .fits ≡ true)) ⌝ }
 {
     if f.refusal != r.refusal {

@@ -130,7 +130,7 @@ fn each(fd: i32) -> Tally {
 }
 
 // All records of the file. One that cannot be opened is a difference.
-pub fn all(path: &[u8]) -> Tally {
+pub(crate) fn all(path: &[u8]) -> Tally {
     let fd = os::open_read(path);
     if fd < 0 {
         print::missing(path);

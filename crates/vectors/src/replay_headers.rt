@@ -48,7 +48,7 @@ fn of_byte(function: u8, header: u8) -> Found {
     }
 }
 
-pub fn answer(function: u8, header: usize) -> Found {
+pub(crate) fn answer(function: u8, header: usize) -> Found {
     if 255 < header {
         return found::nothing();
     }

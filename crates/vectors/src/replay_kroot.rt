@@ -70,7 +70,7 @@ fn field(function: u8, msg: &[u8]) -> Found {
     }
 }
 
-pub fn answer(function: u8, msg: &[u8]) -> Found {
+pub(crate) fn answer(function: u8, msg: &[u8]) -> Found {
     match function {
         22 => found::part(msg, dsm_kroot::kroot_shown(msg), dsm_kroot::kroot(msg)),
         23 => found::part(

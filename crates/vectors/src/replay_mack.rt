@@ -20,7 +20,7 @@ fn prnd_fits(answer: PrndAnswer, number: Found) -> bool {
     }
 }
 
-pub fn prnd(msg: &[u8], ks: usize, ts: usize, n: usize) -> Found {
+pub(crate) fn prnd(msg: &[u8], ks: usize, ts: usize, n: usize) -> Found {
     let number = found::number(mack::prnd_number(msg, ks, ts, n));
     found::named(number, prnd_fits(mack::prnd(msg, ks, ts, n), number))
 }
@@ -37,12 +37,12 @@ fn adkd_fits(answer: AdkdAnswer, number: Found) -> bool {
     }
 }
 
-pub fn adkd(msg: &[u8], ks: usize, ts: usize, n: usize) -> Found {
+pub(crate) fn adkd(msg: &[u8], ks: usize, ts: usize, n: usize) -> Found {
     let number = found::number(mack::adkd_number(msg, ks, ts, n));
     found::named(number, adkd_fits(mack::adkd(msg, ks, ts, n), number))
 }
 
-pub fn answer(function: u8, msg: &[u8], ks: usize, ts: usize, n: usize) -> Found {
+pub(crate) fn answer(function: u8, msg: &[u8], ks: usize, ts: usize, n: usize) -> Found {
     match function {
         50 => found::number(mack::num_tags(ks, ts)),
         51 => found::number(mack::tag0(msg, ks, ts)),
@@ -71,7 +71,7 @@ fn key_into(msg: &[u8], ks: usize, ts: usize, out: &mut [u8], expected: &[u8]) -
 }
 
 // The key, into as many bytes as its size asks for, where that is at most 32.
-pub fn key(msg: &[u8], ks: usize, ts: usize, expected: &[u8]) -> Found {
+pub(crate) fn key(msg: &[u8], ks: usize, ts: usize, expected: &[u8]) -> Found {
     let mut out = FILL;
     let view: &mut [u8] = &mut out;
     let n = ks / 8;

@@ -21,13 +21,13 @@ fn type_fits(answer: NewPublicKeyTypeAnswer, number: Found) -> bool {
     }
 }
 
-pub fn key_type(msg: &[u8]) -> Found {
+pub(crate) fn key_type(msg: &[u8]) -> Found {
     let number = found::number(dsm_pkr::new_public_key_type_number(msg));
     found::named(number, type_fits(dsm_pkr::new_public_key_type(msg), number))
 }
 
 // A tree node by its place, and its bytes by value: zeros where it is refused.
-pub fn node(msg: &[u8], n: usize) -> Found {
+pub(crate) fn node(msg: &[u8], n: usize) -> Found {
     let node = dsm_pkr::intermediate_tree_node(msg, n);
     let answer = node.answer;
     let bytes = node.bytes;
@@ -37,7 +37,7 @@ pub fn node(msg: &[u8], n: usize) -> Found {
     }
 }
 
-pub fn answer(function: u8, msg: &[u8], a: usize) -> Found {
+pub(crate) fn answer(function: u8, msg: &[u8], a: usize) -> Found {
     match function {
         30 => found::number(dsm_pkr::number_of_blocks(msg)),
         31 => found::number(dsm_pkr::message_id(msg)),

@@ -37,7 +37,7 @@ fn entry(id: u8, msg: usize, tag: usize) -> Found {
     }
 }
 
-pub fn answer(function: u8, id: usize, msg: usize, tag: usize) -> Found {
+pub(crate) fn answer(function: u8, id: usize, msg: usize, tag: usize) -> Found {
     if 255 < id {
         return found::nothing();
     }
@@ -63,7 +63,7 @@ fn flx_of_byte(id: u8, msg: usize, expected: &[u8]) -> Found {
 }
 
 // The FLX tags, four bytes: zeros where they are refused, which the record leaves out.
-pub fn flx_indices(id: usize, msg: usize, expected: &[u8]) -> Found {
+pub(crate) fn flx_indices(id: usize, msg: usize, expected: &[u8]) -> Found {
     if 255 < id {
         return found::nothing();
     }

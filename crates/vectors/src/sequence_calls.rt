@@ -12,18 +12,18 @@ use subframes::subframe::CollectSubframe;
 use subframes::subframe::Message;
 use subframes::subframe::SubframeAnswer;
 
-pub struct Held {
+pub(crate) struct Held {
     pub subframe: CollectSubframe,
     pub dsm: CollectDsm,
     pub storage: MackStorage,
 }
 
-pub struct Called {
+pub(crate) struct Called {
     pub held: Held,
     pub found: Found,
 }
 
-pub fn new() -> Held {
+pub(crate) fn new() -> Held {
     Held {
         subframe: subframes::subframe::new(),
         dsm: dsms::dsm::new(),
@@ -32,7 +32,7 @@ pub fn new() -> Held {
 }
 
 // New records; the lent bytes stay as they are, and must not matter.
-pub fn anew() -> Called {
+pub(crate) fn anew() -> Called {
     Called {
         held: new(),
         found: found::value(0),
@@ -40,7 +40,7 @@ pub fn anew() -> Called {
 }
 
 // For what cannot be called.
-pub fn unchanged(held: Held) -> Called {
+pub(crate) fn unchanged(held: Held) -> Called {
     Called {
         held,
         found: found::nothing(),
@@ -72,7 +72,7 @@ fn pair_shown<'a>(
 }
 
 // 90: a page.
-pub fn page(
+pub(crate) fn page(
     held: Held,
     hkroot: &mut [u8],
     mack: &mut [u8],
@@ -123,7 +123,7 @@ fn block_found(answer: DsmAnswer, fits: bool) -> Found {
 }
 
 // 91: a block.
-pub fn block(held: Held, dsm: &mut [u8], r: Record, msg: &[u8], expected: &[u8]) -> Called {
+pub(crate) fn block(held: Held, dsm: &mut [u8], r: Record, msg: &[u8], expected: &[u8]) -> Called {
     if 255 < r.a {
         return unchanged(held);
     }
@@ -147,7 +147,13 @@ fn store_found(answer: StoreAnswer, fits: bool) -> Found {
 }
 
 // 92: a message to store, after its status.
-pub fn store(held: Held, memory: &mut [u8], r: Record, msg: &[u8], expected: &[u8]) -> Called {
+pub(crate) fn store(
+    held: Held,
+    memory: &mut [u8],
+    r: Record,
+    msg: &[u8],
+    expected: &[u8],
+) -> Called {
     if 255 < r.a {
         return unchanged(held);
     }
@@ -182,7 +188,7 @@ pub fn store(held: Held, memory: &mut [u8], r: Record, msg: &[u8], expected: &[u
 }
 
 // 93: a message that is asked for, with its status.
-pub fn get(held: Held, memory: &[u8], r: Record, msg: &[u8], expected: &[u8]) -> Called {
+pub(crate) fn get(held: Held, memory: &[u8], r: Record, msg: &[u8], expected: &[u8]) -> Called {
     if 255 < r.a {
         return unchanged(held);
     }

@@ -131,7 +131,7 @@ fn each(fd: i32, hkroot: &mut [u8], mack: &mut [u8], dsm: &mut [u8], memory: &mu
 }
 
 // All records of the file. One that cannot be opened is a difference.
-pub fn all(path: &[u8]) -> Tally {
+pub(crate) fn all(path: &[u8]) -> Tally {
     let fd = os::open_read(path);
     if fd < 0 {
         print::missing(path);

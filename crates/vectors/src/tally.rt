@@ -1,6 +1,6 @@
 // Counts of what was compared.
 
-pub struct Tally {
+pub(crate) struct Tally {
     pub good: u64,
     pub refused: u64,
     pub differ: u64,
@@ -8,7 +8,7 @@ pub struct Tally {
     pub boundary: u64,
 }
 
-pub fn none() -> Tally {
+pub(crate) fn none() -> Tally {
     Tally {
         good: 0,
         refused: 0,
@@ -18,12 +18,12 @@ pub fn none() -> Tally {
 }
 
 // A count that goes no further than its type does.
-pub fn more(n: u64) -> u64 {
+pub(crate) fn more(n: u64) -> u64 {
     if n < 18446744073709551615 { n + 1 } else { n }
 }
 
 // The sum of two counts. A file makes none that reach 2^32.
-pub fn total(n: u64, m: u64) -> u64 {
+pub(crate) fn total(n: u64, m: u64) -> u64 {
     if 4294967296 <= n {
         return n;
     }
@@ -35,7 +35,7 @@ pub fn total(n: u64, m: u64) -> u64 {
 
 impl Tally {
     // One record more, refused or not.
-    pub fn record(self, refusal: u8) -> Tally {
+    pub(crate) fn record(self, refusal: u8) -> Tally {
         let mut t = self;
         if refusal == 0 {
             t.good = more(t.good);
@@ -45,13 +45,13 @@ impl Tally {
         t
     }
 
-    pub fn difference(self) -> Tally {
+    pub(crate) fn difference(self) -> Tally {
         let mut t = self;
         t.differ = more(t.differ);
         t
     }
 
-    pub fn boundary_only(self) -> Tally {
+    pub(crate) fn boundary_only(self) -> Tally {
         let mut t = self;
         t.boundary = more(t.boundary);
         t

@@ -17,8 +17,11 @@ slot-requires c κs = search needs
 
 returns : tie.Need-returns
 returns c =
-    let a = c .before .before .before .before .before .before .args in
-    c .slot .ensures ∙ ap (slot (a .flex .now) (a .adkd .now) (a .object .now)) (c .before .before .before .before .get-maclt-entry .ensures ∙ c .before .before .before .before .before .table-id .ensures .entries (a .message) (a .tag))
+    let d = c .before .before .before .before in
+    let a = d .before .before .args in
+    c .slot .ensures
+    ∙ ap (slot (a .flex .now) (a .adkd .now) (a .object .now))
+    (d .get-maclt-entry .ensures ∙ d .before .table-id .ensures .entries (a .message) (a .tag))
 
 pub osnma-get-maclt-entry-spec : {M : Type 1} → statement M
 osnma-get-maclt-entry-spec =

@@ -17,7 +17,8 @@ number-requires c κs = search needs
 
 returns : tie.Need-returns
 returns c =
-    told-by (c .before .before .before .before .args .value .now) (c .before .before .nt .ensures ∙ c .before .before .before .table-id .ensures .tags) (c .number .ensures)
+    let d = c .before .before in
+    told-by (d .before .before .args .value .now) (d .nt .ensures ∙ d .before .table-id .ensures .tags) (c .number .ensures)
 
 pub osnma-maclt-nt-spec : {M : Type 1} → statement M
 osnma-maclt-nt-spec = tie.close (tie.spec table-id-requires nt-requires number-requires returns)

@@ -14,8 +14,13 @@ part-requires c κs = search needs
 
 returns : tie.Need-returns
 returns c =
-    let a = c .before .before .before .before .before .args in
-    placed-by (a .first .now) (a .many .now) (node-answer 32 (a .msg .now) (nodePart (a .msg .now) (a .node)) (c .before .before .before .intermediate-tree-node .ensures)) (c .part .ensures)
+    let d = c .before .before .before in
+    let a = d .before .before .args in
+    placed-by
+    (a .first .now)
+    (a .many .now)
+    (node-answer 32 (a .msg .now) (nodePart (a .msg .now) (a .node)) (d .intermediate-tree-node .ensures))
+    (c .part .ensures)
 
 pub osnma-pkr-intermediate-tree-node-spec : {M : Type 1} → statement M
 osnma-pkr-intermediate-tree-node-spec =

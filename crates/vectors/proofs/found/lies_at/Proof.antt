@@ -38,7 +38,9 @@ same-requires : tie.Need-same-requires
 same-requires c κs = search needs
 
 returns-3 : tie.Need-returns-3
-returns-3 c h = whole (c .before .before .before .before .before .before .args .first) (c .before .before .before .before .before .before .args .many) (c .before .before .before .before .before .before .args .msg .now) (c .before .before .before .before .before .before .args .bytes .now) (c .same .ensures .0 h)
+returns-3 c h =
+    let a = c .before .before .before .before .before .before .args in
+    whole (a .first) (a .many) (a .msg .now) (a .bytes .now) (c .same .ensures .0 h)
 
 pub lies-at-spec : {M : Type 1} → statement M
 lies-at-spec =

@@ -9,7 +9,9 @@ use Rattle.vectors.proofs.sequences.each.Statement.{statement}
 use Rattle.vectors.proofs.sequences.each.Tie as tie
 
 abbrev Inv-loop : tie.InvT-loop
-Inv-loop fd hkroot₀ mack₀ dsm₀ memory₀ held₀ t₀ number₀ hkroot mack dsm memory held t number = (number ≤ 1000001) × (length hkroot ≡ length hkroot₀) × (length mack ≡ length mack₀) × (length dsm ≡ length dsm₀) × (length memory ≡ length memory₀)
+Inv-loop fd hkroot₀ mack₀ dsm₀ memory₀ held₀ t₀ number₀ hkroot mack dsm memory held t number =
+    (number ≤ 1000001)
+    × (length hkroot ≡ length hkroot₀) × (length mack ≡ length mack₀) × (length dsm ≡ length dsm₀) × (length memory ≡ length memory₀)
 
 abbrev μ-loop : tie.MeasureT-loop
 μ-loop fd hkroot₀ mack₀ dsm₀ memory₀ held₀ t₀ number₀ hkroot mack dsm memory held t number = 1000001 - number

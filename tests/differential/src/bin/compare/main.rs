@@ -66,6 +66,7 @@ impl Tally {
         }
         self.print("all", all);
         println!("seed {}", self.seed);
+        println!("compared with the Rust: {} comparisons, {} differences", all.with_the_rust, all.different);
         exit(if all.different == 0 { 0 } else { 1 })
     }
 }

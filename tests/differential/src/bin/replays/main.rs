@@ -88,7 +88,7 @@ fn main() {
     println!(
         "seed {seed}, {files} files, {refused} of them refused, {pages} pages, {subframes} subframes, {dsms} DSMs"
     );
-    println!("no difference");
+    println!("compared with the Rust: {files} files, 0 differences");
     if subframes == 0 || dsms == 0 || refused == 0 {
         println!("replays: too few files for every kind of line to come up");
         exit(1)

@@ -42,7 +42,7 @@ impl Count {
     }
 }
 
-/// Runs sequences until there are `calls` calls; each refusal number named must come up.
+/// Runs sequences until there are `calls` calls, and says how many there were; each refusal number named must come up.
 fn run<P: Pair, S>(
     name: &str,
     calls: u64,
@@ -50,7 +50,7 @@ fn run<P: Pair, S>(
     new: impl Fn(&mut Random) -> S,
     next: impl Fn(&mut S, &mut Random) -> P::Call,
     refusals: &[usize],
-) {
+) -> u64 {
     let mut count = Count::default();
     while count.calls < calls {
         // half of the sequences start with zeros in the lent memory, as the Rust does
@@ -75,6 +75,7 @@ fn run<P: Pair, S>(
         println!("{name}: some kind of answer never came up");
         exit(1)
     }
+    count.calls
 }
 
 /// One satellite's count, which the Rust has not as a function: all counts and words, against document 01.
@@ -121,7 +122,7 @@ fn main() {
     println!("{:<12}{:>12}{:>12}{:>12}", "collector", "calls", "answers", "nothing");
     words();
     let random = &mut Random::new(seed);
-    run::<subframe::Subframes, _>(
+    let mut ran = run::<subframe::Subframes, _>(
         "subframe",
         calls / 2,
         random,
@@ -129,8 +130,8 @@ fn main() {
         subframe::Source::call,
         &[1, 2, 3, 4, 12],
     );
-    run::<dsm::Dsms, _>("dsm", calls / 3, random, dsm::Source::new, dsm::Source::call, &[1, 12]);
-    run::<store::Stores, _>(
+    ran += run::<dsm::Dsms, _>("dsm", calls / 3, random, dsm::Source::new, dsm::Source::call, &[1, 12]);
+    ran += run::<store::Stores, _>(
         "mack store",
         calls / 4,
         random,
@@ -138,5 +139,5 @@ fn main() {
         store::Source::call,
         &[1, 2, 3, 4, 7, 10, 12],
     );
-    println!("no difference");
+    println!("compared with the Rust: {ran} calls, 0 differences");
 }

@@ -3,7 +3,7 @@ use crate::pages::Seen;
 use libc::STDOUT_FILENO;
 use texts::lines;
 
-pub fn text(words: &[u8]) {
+fn text(words: &[u8]) {
     io::write_all(STDOUT_FILENO, words);
 }
 
@@ -13,7 +13,7 @@ fn number(words: &[u8], n: u64) {
 }
 
 // An edge's name, and a line each for the last subframe, the last DSM and the totals; then what no line has.
-pub fn run(name: &[u8], seen: Seen) {
+pub(crate) fn run(name: &[u8], seen: Seen) {
     text(name);
     text(b"\n");
     let record = seen.record;
@@ -46,7 +46,7 @@ fn totals(seen: Seen) {
 }
 
 // What a call answered: its refusal number, or 0 with how many pages were consumed.
-pub fn call(name: &[u8], refusal: u8, consumed: usize) {
+pub(crate) fn call(name: &[u8], refusal: u8, consumed: usize) {
     text(name);
     number(b": refused ", refusal as u64);
     number(b" consumed ", consumed as u64);

@@ -7,7 +7,7 @@ use page_replay::replay::Replayed;
 use page_replay::replay::SubframeDone;
 
 // What a run came to: its record, the last subframe and the last DSM, and how many calls were not answered with 1.
-pub struct Seen {
+pub(crate) struct Seen {
     pub record: PageReplay,
     pub week: u16,
     pub time: u32,
@@ -17,7 +17,7 @@ pub struct Seen {
 }
 
 // A page with its HKROOT byte; an alert does not count.
-pub fn page(hkroot: u8, is_alert: bool) -> [u8; 30] {
+pub(crate) fn page(hkroot: u8, is_alert: bool) -> [u8; 30] {
     let mut bytes = [0u8; 30];
     bytes[15] = 128;
     if is_alert {
@@ -30,7 +30,7 @@ pub fn page(hkroot: u8, is_alert: bool) -> [u8; 30] {
 }
 
 // A run that has seen nothing, from a time that is in range.
-pub fn start(satellite: u8, week: u16, time: u32) -> Seen {
+pub(crate) fn start(satellite: u8, week: u16, time: u32) -> Seen {
     let begun = replay::new(satellite, week, time);
     let record = begun.replay;
     Seen {
@@ -91,7 +91,7 @@ fn with(seen: Seen, done: Replayed) -> Seen {
 }
 
 // One page.
-pub fn one(
+pub(crate) fn one(
     seen: Seen,
     hkroot: &mut [u8],
     mack: &mut [u8],

@@ -1,21 +1,25 @@
--- `runs::zeros`: as many pages as asked; the lent bytes stay as many.
+-- `runs::block`: fifteen pages; the lent bytes stay as many.
 -- Assumes nothing.
 use mathlib.Core.Path.{_≡_}
 use Prim.Native.Nat.{_-_}
 use lib.ListN.{length}
 use native.Mathlib.Omega.{arith}
 use borrow.Author.Needs.{needs}
-use Rattle.replay_edges.proofs.runs.zeros.Statement.{statement}
-use Rattle.replay_edges.proofs.runs.zeros.Tie as tie
+use Rattle.edges.proofs.runs.block.Statement.{statement}
+use Rattle.edges.proofs.runs.block.Tie as tie
 
 abbrev Inv-loop : tie.InvT-loop
-Inv-loop hkroot₀ mack₀ dsm₀ is-alert many seen₀ i₀ hkroot mack dsm seen i = (length hkroot ≡ length hkroot₀) × (length mack ≡ length mack₀) × (length dsm ≡ length dsm₀)
+Inv-loop hkroot₀ mack₀ dsm₀ header first seen₀ i₀ hkroot mack dsm seen i =
+    (length hkroot ≡ length hkroot₀) × (length mack ≡ length mack₀) × (length dsm ≡ length dsm₀)
 
 abbrev μ-loop : tie.MeasureT-loop
-μ-loop hkroot₀ mack₀ dsm₀ is-alert many seen₀ i₀ hkroot mack dsm seen i = many - i
+μ-loop hkroot₀ mack₀ dsm₀ header first seen₀ i₀ hkroot mack dsm seen i = 15 - i
 
 loop-holds : tie.Need-loop-holds Inv-loop μ-loop
 loop-holds c = search needs
+
+byte-requires : tie.Need-byte-requires Inv-loop μ-loop
+byte-requires c κs = search needs
 
 one-requires : tie.Need-one-requires Inv-loop μ-loop
 one-requires c κs = search needs
@@ -41,13 +45,14 @@ same-length-3 c = omega arith
 returns : tie.Need-returns Inv-loop μ-loop
 returns c = search needs
 
-pub zeros-spec : {M : Type 1} → statement M
-zeros-spec =
+pub block-spec : {M : Type 1} → statement M
+block-spec =
     tie.close
     (tie.spec
     Inv-loop
     μ-loop
     loop-holds
+    byte-requires
     one-requires
     add-i
     loop-less

@@ -145,7 +145,7 @@ fn pages() {
     bytes(b"480 bytes, budget 16", &sixteen, 16);
 }
 
-pub fn all() {
+pub(crate) fn all() {
     pages();
     lengths();
     totals();

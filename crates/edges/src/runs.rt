@@ -3,7 +3,7 @@ use crate::pages;
 use crate::pages::Seen;
 
 // Pages with a zero field.
-pub fn zeros(
+pub(crate) fn zeros(
     seen: Seen,
     hkroot: &mut [u8],
     mack: &mut [u8],
@@ -35,7 +35,7 @@ fn byte(header: u8, first: u8, i: u8) -> u8 {
 }
 
 // A subframe with a block.
-pub fn block(
+pub(crate) fn block(
     seen: Seen,
     hkroot: &mut [u8],
     mack: &mut [u8],
@@ -53,7 +53,7 @@ pub fn block(
 }
 
 // The blocks from 0 on, in their subframes; `count` is the high half of the first byte of block 0.
-pub fn blocks(
+pub(crate) fn blocks(
     seen: Seen,
     hkroot: &mut [u8],
     mack: &mut [u8],

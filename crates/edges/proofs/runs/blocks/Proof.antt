@@ -5,11 +5,12 @@ use Prim.Native.Nat.{_-_}
 use lib.ListN.{length}
 use native.Mathlib.Omega.{arith}
 use borrow.Author.Needs.{needs}
-use Rattle.replay_edges.proofs.runs.blocks.Statement.{statement}
-use Rattle.replay_edges.proofs.runs.blocks.Tie as tie
+use Rattle.edges.proofs.runs.blocks.Statement.{statement}
+use Rattle.edges.proofs.runs.blocks.Tie as tie
 
 abbrev Inv-loop : tie.InvT-loop
-Inv-loop hkroot₀ mack₀ dsm₀ id count many seen₀ n₀ hkroot mack dsm seen n = (length hkroot ≡ length hkroot₀) × (length mack ≡ length mack₀) × (length dsm ≡ length dsm₀)
+Inv-loop hkroot₀ mack₀ dsm₀ id count many seen₀ n₀ hkroot mack dsm seen n =
+    (length hkroot ≡ length hkroot₀) × (length mack ≡ length mack₀) × (length dsm ≡ length dsm₀)
 
 abbrev μ-loop : tie.MeasureT-loop
 μ-loop hkroot₀ mack₀ dsm₀ id count many seen₀ n₀ hkroot mack dsm seen n = many - n

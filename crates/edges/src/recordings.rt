@@ -1,4 +1,4 @@
-// The edges: runs of pages, and what each comes to.
+// Recordings of good pages, alert pages and a DSM's blocks, and what each comes to.
 use crate::pages;
 use crate::print;
 use crate::runs;
@@ -34,7 +34,7 @@ fn blocks(name: &[u8], id: u8, count: u8, many: u8, again: u8) {
     print::run(name, c);
 }
 
-pub fn all() {
+pub(crate) fn all() {
     zeros(b"document 01", 3, 1200, 60, 15, 0, 0);
     zeros(b"empty", 3, 1200, 60, 0, 0, 0);
     zeros(b"week wraps in the middle", 36, 1200, 604786, 22, 0, 0);
