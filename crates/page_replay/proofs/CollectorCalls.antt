@@ -9,7 +9,7 @@ use lib.Dec.{eqb}
 use Rattle.layouts.specs.Answer.{Answer, refused, nothing, gives, refusal}
 use Rattle.subframes.specs.Subframe.{Page, State as Subframes, Fed as SubframesFed, wordOf, subframeOf, feedChecks, changed, answerAt, used, offered}
 use Rattle.subframes.specs.Subframe.{feed as feedPage}
-use Rattle.subframes.specs.SubframePromises.{call, state as subframeState, meaning-subframe, FeedSubframe}
+use Rattle.subframes.specs.SubframePromises.{state as subframeState, meaning-subframe, FeedSubframe}
 use Rattle.subframes.specs.SubframeHistory.{History as SubframeHistory, called as page-by, one as page-fed}
 use Rattle.subframes.specs.declared.subframe.CollectSubframe.{CollectSubframe}
 use Rattle.subframes.specs.declared.subframe.SubframeFed.{SubframeFed}
