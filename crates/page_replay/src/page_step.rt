@@ -16,7 +16,7 @@ use subframes::subframe::SubframeFed;
 use subframes::subframe::WordAnswer;
 ghost use mathlib.Core.Path.{_≡_};
 ghost use mathlib.Core.List.{List};
-ghost use Prim.Native.Nat.{ℕ, _+_, _^_, _≤_};
+ghost use Prim.Native.Nat.{ℕ, _+_, _^_};
 ghost use lib.ListN.{length};
 ghost use Rattle.page_replay.specs.Replay.{isTaken, hkrootOf, fedHkroot, passedOn, subframesIn, dsmsIn, one as oneOf, skipped as skippedOf};
 ghost use Rattle.page_replay.specs.Replay.{counted as countedOf, fed as fedOf, pageStep};
