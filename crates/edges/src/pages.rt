@@ -1,10 +1,10 @@
 // Pages, and the runs that they are fed to one by one.
-use collectors::replay;
-use collectors::replay::DsmDone;
-use collectors::replay::PageReplay;
-use collectors::replay::ReplayAnswer;
-use collectors::replay::Replayed;
-use collectors::replay::SubframeDone;
+use page_replay::replay;
+use page_replay::replay::DsmDone;
+use page_replay::replay::PageReplay;
+use page_replay::replay::ReplayAnswer;
+use page_replay::replay::Replayed;
+use page_replay::replay::SubframeDone;
 
 // What a run came to: its record, the last subframe and the last DSM, and how many calls were not answered with 1.
 pub(crate) struct Seen {

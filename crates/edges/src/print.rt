@@ -17,7 +17,7 @@ pub(crate) fn run(name: &[u8], seen: Seen) {
     text(name);
     text(b"\n");
     let record = seen.record;
-    let mut out = [0u8; 160];
+    let mut out = [0u8; 256];
     let a = lines::subframe(&mut out, record.satellite, seen.week, seen.time);
     text(&out[..a]);
     let b = lines::dsm(&mut out, seen.id, seen.bytes);
@@ -33,7 +33,7 @@ pub(crate) fn run(name: &[u8], seen: Seen) {
 
 fn totals(seen: Seen) {
     let record = seen.record;
-    let mut out = [0u8; 160];
+    let mut out = [0u8; 256];
     let many = lines::totals(
         &mut out,
         record.pages,

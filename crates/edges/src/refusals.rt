@@ -1,9 +1,9 @@
 // Single calls: how many pages are consumed, and what is refused.
 use crate::print;
-use collectors::replay;
-use collectors::replay::Begun;
-use collectors::replay::PageReplay;
-use collectors::replay::ReplayAnswer;
+use page_replay::replay;
+use page_replay::replay::Begun;
+use page_replay::replay::PageReplay;
+use page_replay::replay::ReplayAnswer;
 
 fn told(
     name: &[u8],

@@ -8,7 +8,7 @@ use native.Mathlib.Omega.{arith}
 use lib.ListN.{take, drop, replicate}
 use lib.Dec.{T, ltb, eqb, eqb·suc-zero}
 use borrow.Author.Tests.{lt-ltb, le-ltb, lt-leb, le-leb, eq-eqb, ne-eqb}
-use Rattle.layouts.specs.Inner.{Inside}
+use Rattle.layouts.specs.inner.Code.{Inside}
 use Rattle.layouts.specs.Meaning.{meaning-part}
 use Rattle.layouts.specs.declared.answer.Part.{Part}
 use Rattle.layouts.specs.declared.answer.Part.the-variants.{Shown, Refused as NotShown}
@@ -56,7 +56,8 @@ unfolding refusal
 refusal-stop [] ds n e = let z : _≡_ {A = ℕ} zero (suc n) = e in absurd (omega arith)
 refusal-stop (c ∷ cs) ds n e = go (c .fails) (refusal-stop cs ds n) e
   where
-    go : (b : Bool) → (refusal cs ≡ suc n → refusal (cs ++ ds) ≡ suc n) → cond b (c .number) (refusal cs) ≡ suc n → cond b (c .number) (refusal (cs ++ ds)) ≡ suc n
+    go : (b : Bool) → (refusal cs ≡ suc n → refusal (cs ++ ds) ≡ suc n) → cond b (c .number) (refusal cs) ≡ suc n
+        → cond b (c .number) (refusal (cs ++ ds)) ≡ suc n
     go true ih h = h
     go false ih h = ih h
 
@@ -73,16 +74,19 @@ refusal-pass (c ∷ cs) ds t e = go (c .fails) (c .number) (refusal-pass cs ds) 
     go false (suc n) ih t h = ih (rw (eqb·suc-zero n) at t) h
 
 -- the callee refused: so does the caller, with the same number
-pub refused-too : (cs ds : List Check) (l : List ℕ) (a : Answer) {n : ℕ} → refused n ≡ answered (refusal cs) (gives l) → refused n ≡ answered (refusal (cs ++ ds)) a
+pub refused-too : (cs ds : List Check) (l : List ℕ) (a : Answer) {n : ℕ} → refused n ≡ answered (refusal cs) (gives l)
+    → refused n ≡ answered (refusal (cs ++ ds)) a
 unfolding answered
 refused-too cs ds l a e = go (refusal cs) (refusal-stop cs ds) (number-of (refusal cs) l _ e) e
   where
-    go : (q : ℕ) {n : ℕ} → ((k : ℕ) → q ≡ suc k → refusal (cs ++ ds) ≡ suc k) → q ≡ n → refused n ≡ answered q (gives l) → refused n ≡ answered (refusal (cs ++ ds)) a
+    go : (q : ℕ) {n : ℕ} → ((k : ℕ) → q ≡ suc k → refusal (cs ++ ds) ≡ suc k) → q ≡ n → refused n ≡ answered q (gives l)
+        → refused n ≡ answered (refusal (cs ++ ds)) a
     go zero f e h = let z : _≡_ {A = ℕ} 0 1 = cc in absurd (omega arith)
     go (suc q) f e h = rw (f q refl, eqb·suc-zero) (cc)
 
 -- the callee answered: its checks are passed, and the others are left
-pub passed : (cs ds : List Check) (l : List ℕ) (a : Answer) {k : List ℕ} {r : Answer} → T (numbered cs) → gives k ≡ answered (refusal cs) (gives l) → r ≡ answered (refusal ds) a
+pub passed : (cs ds : List Check) (l : List ℕ) (a : Answer) {k : List ℕ} {r : Answer} → T (numbered cs) → gives k ≡ answered (refusal cs) (gives l)
+    → r ≡ answered (refusal ds) a
     → r ≡ answered (refusal (cs ++ ds)) a
 passed cs ds l a {k} t e h = rw (refusal-pass cs ds t (none-of (refusal cs) l k e .0)) h
 
@@ -96,11 +100,17 @@ unfolding refusal
 none-fails [] t e = tt
 none-fails (c ∷ cs) t e = go (c .fails) (c .number) (none-fails cs) t e
   where
-    go : (b : Bool) (n : ℕ) → (T (numbered cs) → refusal cs ≡ 0 → Passed cs) → T (cond (eqb n 0) false (numbered cs)) → cond b n (refusal cs) ≡ 0 → (b ≡ false) × Passed cs
+    go : (b : Bool) (n : ℕ) → (T (numbered cs) → refusal cs ≡ 0 → Passed cs) → T (cond (eqb n 0) false (numbered cs)) → cond b n (refusal cs) ≡ 0
+        → (b ≡ false) × Passed cs
     go true zero ih t h = absurd t
     go true (suc n) ih t h = absurd (omega arith)
     go false zero ih t h = absurd t
     go false (suc n) ih t h = (refl, ih (rw (eqb·suc-zero n) at t) h)
+
+pub all-pass : (cs : List Check) → Passed cs → refusal cs ≡ 0
+unfolding refusal
+all-pass [] p = refl
+all-pass (c ∷ cs) p = rw (p .0) (all-pass cs (p .1))
 
 pub converse : (cs : List Check) (l : List ℕ) {k : List ℕ} → T (numbered cs) → gives k ≡ answered (refusal cs) (gives l) → Passed cs
 converse cs l {k} t e = none-fails cs t (none-of (refusal cs) l k e .0)
@@ -165,7 +175,8 @@ unfolding shown
 not-shown m e = rw e
 
 -- the same for bytes by value
-pub copied-refused : (many : ℕ) (m : List ℕ) {a : Answer} {n : ℕ} → refused n ≡ a → _≡_ {A = Copied} (record { answer = refused n; bytes = replicate many 0 }) (copied many m a)
+pub copied-refused : (many : ℕ) (m : List ℕ) {a : Answer} {n : ℕ} → refused n ≡ a
+    → _≡_ {A = Copied} (record { answer = refused n; bytes = replicate many 0 }) (copied many m a)
 unfolding copied
 copied-refused many m e = ap (copied many m) e
 

@@ -47,7 +47,8 @@ field-byte l k b =
     rw (add-zero, div-one, mod-eq-of-lt b) at (field-in-byte l k 0 8 (omega arith))
 
 -- the byte behind the `i` whole bytes from byte `f` on
-pub field-next : (l : List ℕ) (f i : ℕ) → getD l (f + i) 0 < 2 ^ 8 → field l (8 * f) (8 * i) * 2 ^ 8 + getD l (f + i) 0 ≡ field l (8 * f) (8 * (i + 1))
+pub field-next : (l : List ℕ) (f i : ℕ) → getD l (f + i) 0 < 2 ^ 8
+    → field l (8 * f) (8 * i) * 2 ^ 8 + getD l (f + i) 0 ≡ field l (8 * f) (8 * (i + 1))
 field-next l f i b =
     let more : 8 * (i + 1) ≡ 8 * i + 8 = omega arith in
     let here : 8 * f + 8 * i ≡ 8 * (f + i) = omega arith in
@@ -56,20 +57,21 @@ field-next l f i b =
 -- a run inside a run: `v` bits before it, and `x` after it
 pub field-mid : (l : List ℕ) (s v w x : ℕ) → field l s (v + w + x) / 2 ^ x % 2 ^ w ≡ field l (s + v) w
 field-mid l s v w x =
-    rw (field-add l s (v + w) x, high (field l s (v + w)) x (field-lt l (s + (v + w)) x), field-add l s v w) (low (field l s v) w (field-lt l (s + v) w))
+    rw (field-add l s (v + w) x, high (field l s (v + w)) x (field-lt l (s + (v + w)) x), field-add l s v w)
+    (low (field l s v) w (field-lt l (s + v) w))
 
 -- `n` bits more have room in 64
 pub field-room : (l : List ℕ) (s v n : ℕ) → v + n ≤ 64 → field l s v * 2 ^ n < 2 ^ 64
 field-room l s v n h = lt-of-lt-of-le (shl-lt v n (field-lt l s v)) (pow-mono h)
 
--- the code's `1 << n`
-pub one-shl : (n : ℕ) → n < 64 → (1 * 2 ^ n) % 2 ^ 64 ≡ 2 ^ n
-one-shl n h = rw one-mul (mod-eq-of-lt (pow-lt h))
+-- the code's `1 << n`, of a number of `bits` bits
+pub one-shl : (bits n : ℕ) → n < bits → (1 * 2 ^ n) % 2 ^ bits ≡ 2 ^ n
+one-shl bits n h = rw one-mul (mod-eq-of-lt (pow-lt h))
 
 -- a field of one byte
 pub field-of-byte : (h o w : ℕ) → o + w ≤ 8 → field (h ∷ []) o w ≡ h / 2 ^ (8 - o - w) % 2 ^ w
 field-of-byte h o w r = ap (λ (s : ℕ). field (h ∷ []) s w) (sym (zero-add o)) ∙ field-in-byte (h ∷ []) 0 o w r
 
--- the name of what a field of one byte says
-pub byte-says : (o w h : ℕ) {k : ℕ} → o + w ≤ 8 → h / 2 ^ (8 - o - w) % 2 ^ w ≡ k → gives (k ∷ []) ≡ gives (field (h ∷ []) o w ∷ [])
-byte-says o w h r e = ap (λ (n : ℕ). gives (n ∷ [])) (sym e ∙ sym (field-of-byte h o w r))
+-- the name of what a field says
+pub says : {v w k : ℕ} → v ≡ w → v ≡ k → gives (k ∷ []) ≡ gives (w ∷ [])
+says e f = ap (λ (n : ℕ). gives (n ∷ [])) (sym f ∙ e)

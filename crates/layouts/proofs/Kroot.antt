@@ -11,13 +11,26 @@ use borrow.Author.Tests.{ltb-false, eqb-true, eqb-false, le-ltb, eq-eqb, ne-eqb}
 use Rattle.layouts.specs.Answer.{Answer, refused, gives, _when_, refusal, answered, part}
 use Rattle.layouts.specs.Bits.{the, value}
 use Rattle.layouts.specs.Sizes.{size, krootBlocks, keySizes, ecdsaFunctions, readSize}
-use Rattle.layouts.specs.DsmKroot.{krootLayout, keyBytes, keyChecks, krootPart, padding-to-block, signature-length, signatureBytes, signatureChecks, signaturePart, ecdsaFunction, paddingPart}
+use Rattle.layouts.specs.DsmKroot.{
+  krootLayout,
+  keyBytes,
+  keyChecks,
+  krootPart,
+  padding-to-block,
+  signature-length,
+  signatureBytes,
+  signatureChecks,
+  signaturePart,
+  ecdsaFunction,
+  paddingPart,
+}
+use Rattle.layouts.specs.Layouts.{Follow}
 use Rattle.layouts.specs.Meaning.{meaning-number, meaning-part}
 use Rattle.layouts.specs.declared.answer.Number.{Number}
 use Rattle.layouts.specs.declared.answer.Number.the-variants.{Value, Refused}
 use Rattle.layouts.specs.declared.answer.Part.{Part}
 use Rattle.layouts.specs.declared.answer.Part.the-variants.{Shown, Refused as NotShown}
-use Rattle.layouts.proofs.Answers.{stop, pass, done, refused-too, passed, Passed, converse, answer-of, refusal-idle}
+use Rattle.layouts.proofs.Answers.{stop, pass, done, refused-too, passed, Passed, none-fails, all-pass, converse, answer-of, refusal-idle, given-with}
 use Rattle.layouts.proofs.Readers.{first-of, second-of, part-first, part-many, part-ends}
 use Rattle.layouts.proofs.Fields.{field-lt}
 use Rattle.layouts.proofs.Tables.{holds-below}
@@ -57,7 +70,8 @@ pub signature-other : (k r : ℕ) → (signature-length k r ≡ 0 → ⊥) → (
 unfolding signature-length
 signature-other k r = go (eqb r (64 + padding-to-block (k + 64))) (eqb r (132 + padding-to-block (k + 132)))
   where
-    go : (x y : Bool) → (_≡_ {A = ℕ} (cond x 64 (cond y 132 0)) 0 → ⊥) → (_≡_ {A = ℕ} (cond x 64 (cond y 132 0)) 64 → ⊥) → _≡_ {A = ℕ} (cond x 64 (cond y 132 0)) 132
+    go : (x y : Bool) → (_≡_ {A = ℕ} (cond x 64 (cond y 132 0)) 0 → ⊥) → (_≡_ {A = ℕ} (cond x 64 (cond y 132 0)) 64 → ⊥)
+        → _≡_ {A = ℕ} (cond x 64 (cond y 132 0)) 132
     go true y ne no′ = absurd (no′ refl)
     go false true ne no′ = refl
     go false false ne no′ = absurd (ne refl)
@@ -133,7 +147,8 @@ module _ (m : List ℕ) where
   room : Passed (signatureChecks m) → 13 + keyBytes m + signatureBytes m ≤ length m
   room p =
       let h : 13 + keyBytes m ≤ length m = ltb-false (length m) (13 + keyBytes m) (p .1 .1 .0) in
-      let s : signatureBytes m ≤ length m - (13 + keyBytes m) = signature-fits (keyBytes m) (length m - (13 + keyBytes m)) (eqb-false (signatureBytes m) 0 (p .1 .1 .1 .0)) in
+      let r : ℕ = length m - (13 + keyBytes m) in
+      let s : signatureBytes m ≤ r = signature-fits (keyBytes m) r (eqb-false (signatureBytes m) 0 (p .1 .1 .1 .0)) in
       omega arith
 
   after : (first many : ℕ) → (13 + keyBytes m + signatureBytes m ≤ length m → first + many ≤ length m)
@@ -146,14 +161,40 @@ module _ (m : List ℕ) where
   unfolding signaturePart
   signature-answer = after (13 + keyBytes m) (signatureBytes m) (λ h. h)
 
+  padding-answer :
+      paddingPart m
+      ≡ answered (refusal (signatureChecks m))
+      (gives ((13 + keyBytes m + signatureBytes m) ∷ (length m - (13 + keyBytes m + signatureBytes m)) ∷ []))
+  unfolding paddingPart
+  padding-answer =
+      after (13 + keyBytes m + signatureBytes m) (length m - (13 + keyBytes m + signatureBytes m)) (λ h. omega arith)
+
+  -- where nothing is refused the parts follow one another to the end
+  module _ (z : refusal (signatureChecks m) ≡ 0) where
+    all-there : Passed (signatureChecks m)
+    all-there = none-fails (signatureChecks m) tt z
+
+    given : {a : Answer} (b : Answer) → a ≡ answered (refusal (signatureChecks m)) b → a ≡ b
+    given b e = e ∙ sym (given-with (refusal (signatureChecks m)) b z refl)
+
+    key-answer : krootPart m ≡ gives (13 ∷ keyBytes m ∷ [])
+    unfolding krootPart
+    key-answer =
+        let p = all-there in
+        sym (given-with _ (gives (13 ∷ keyBytes m ∷ []))
+        (all-pass (keyChecks m ++ (5 when ltb (length m) (13 + keyBytes m) ∷ [])) (p .0, (p .1 .0, (p .1 .1 .0, tt)))) refl)
+
+    pub parts-follow : Follow 13 (krootPart m ∷ signaturePart m ∷ paddingPart m ∷ []) (length m)
+    parts-follow =
+        let h : 13 + keyBytes m + signatureBytes m ≤ length m = room all-there in
+        rw (key-answer, given _ signature-answer, given _ padding-answer) (refl, (refl, (refl, omega arith)))
+
   module _ {x : Part} (e : meaning-part x ≡ signaturePart m) where
     pub refused-after : (a : Answer) {n : ℕ} → x ≡ NotShown n → refused n ≡ answered (refusal (signatureChecks m)) a
     refused-after a g = refused-too (signatureChecks m) [] ((13 + keyBytes m) ∷ signatureBytes m ∷ []) a ((rw g at e) ∙ signature-answer)
 
     pub padding-refused : {n : ℕ} → x ≡ NotShown n → refused n ≡ paddingPart m
-    unfolding paddingPart
-    padding-refused g =
-        refused-after _ g ∙ sym (after (13 + keyBytes m + signatureBytes m) (length m - (13 + keyBytes m + signatureBytes m)) (λ h. omega arith))
+    padding-refused g = refused-after _ g ∙ sym padding-answer
 
     module _ {f s : ℕ} (g : x ≡ Shown f s) where
       gave-sig : gives (f ∷ s ∷ []) ≡ answered (refusal (signatureChecks m)) (gives ((13 + keyBytes m) ∷ signatureBytes m ∷ []))

@@ -1,17 +1,24 @@
 -- The tables, as a whole: each statement computes.
 -- Assumes nothing.
-use Prim.Native.Nat.{ℕ, _+_, _*_}
-use mathlib.Core.Path.{refl}
-use lib.Dec.{eqb, eqb→eq}
+use Prim.Native.Nat.{ℕ, _+_, _*_, _/_}
+use native.Mathlib.Omega.{arith}
+use mathlib.Core.Bool.{Bool}
+use mathlib.Core.Path.{_≡_, refl, ap, subst}
+use lib.Dec.{T, leb, leb→le, eqb, eqb→eq}
 use lib.ListN.{getD, drop}
-use Rattle.layouts.specs.Answer.{refusals}
-use Rattle.layouts.specs.Bits.{Field, row}
+use borrow.Author.Tests.{not-false}
+use Rattle.layouts.specs.Answer.{refusals, refusal}
+use Rattle.layouts.specs.Bits.{field, Field, row, gapless}
 use Rattle.layouts.specs.DsmPkr.{pkrLayout}
-use Rattle.layouts.specs.Layouts.{Covered, Numbered, NodesLie}
-use Rattle.layouts.proofs.Tables.{holds-below}
-
-pub covered : Covered
-covered = record { nma = tt; dsm = tt; kroot = tt; pkr = tt }
+use Rattle.layouts.specs.Sizes.{keySizes, tagSizes}
+use Rattle.layouts.specs.Mack.{sizesOf, sizeChecks, nt, mackLayout}
+use Rattle.layouts.specs.Layouts.{Covered, KrootFollows, PkrFollows, Numbered, NodesLie, TagsAtLeastFour, TagInfoIs}
+use Rattle.layouts.proofs.Answers.{none-fails}
+use Rattle.layouts.proofs.Fields.{field-add}
+use Rattle.layouts.proofs.Tables.{holds-below, every}
+use Rattle.layouts.proofs.Tags.{of-listed}
+use Rattle.layouts.proofs.Kroot as kroot
+use Rattle.layouts.proofs.Pkr as pkr
 
 pub refusals-numbered : Numbered
 unfolding refusals
@@ -25,3 +32,45 @@ nodes-lie n h = (
   eqb→eq _ _ (holds-below 4 (λ k. eqb (node-row k .first) (8 * (1 + 32 * k))) tt n h),
   eqb→eq _ _ (holds-below 4 (λ k. eqb (node-row k .width) (8 * 32)) tt n h),
 )
+
+-- a test of every listed key size and tag size, as key bytes and tag bits, is a test of any that are not refused
+abbrev every-pair : (ℕ → ℕ → Bool) → Bool
+every-pair test = every (λ K. every (λ T. test (K / 8) T) (sizesOf tagSizes)) (sizesOf keySizes)
+
+of-sizes : (test : ℕ → ℕ → Bool) (k T′ : ℕ) → T (every-pair test) → refusal (sizeChecks k T′) ≡ 0 → T (test k T′)
+of-sizes test k T′ t e =
+    let p = none-fails (sizeChecks k T′) tt e in
+    let whole : 8 * k / 8 ≡ k = omega arith in
+    let of-key = of-listed (λ K. every (λ T. test (K / 8) T) (sizesOf tagSizes)) (8 * k) (sizesOf keySizes) t (not-false _ (p .0)) in
+    subst (λ (j : ℕ). T (test j T′)) whole (of-listed (λ T. test (8 * k / 8) T) T′ (sizesOf tagSizes) of-key (not-false _ (p .1 .0)))
+
+pub covered : Covered
+unfolding keySizes tagSizes nt
+covered =
+    record {
+      page = tt;
+      nma = tt;
+      dsm = tt;
+      kroot = tt;
+      pkr = tt;
+      mack = λ k t. of-sizes (λ k t. gapless 0 (mackLayout k t) (8 * 60)) k t tt;
+    }
+
+pub kroot-follows : KrootFollows
+kroot-follows = kroot.parts-follow
+
+pub pkr-follows : PkrFollows
+pkr-follows = pkr.parts-follow
+
+pub tags-at-least-four : TagsAtLeastFour
+unfolding keySizes tagSizes nt
+tags-at-least-four k T e = (
+  leb→le 4 (nt k T) (of-sizes (λ k T. leb 4 (nt k T)) k T tt e),
+  leb→le (nt k T) 10 (of-sizes (λ k T. leb (nt k T) 10) k T tt e),
+)
+
+pub tag-info-is : TagInfoIs
+tag-info-is m T n =
+    let s : ℕ = n * (T + 16) + T in
+    let behind : field m (s + 8 + 4) 4 ≡ field m (s + 12) 4 = ap (λ (i : ℕ). field m i 4) (omega arith) in
+    omega (arith, field-add m s 8 8, field-add m (s + 8) 4 4)

@@ -8,11 +8,11 @@ use native.Mathlib.Omega.{arith}
 use lib.Dec.{T, ltb, leb, eqb, eqb·suc-zero, leb→le, eqb→eq}
 use lib.ListN.{length, getD, replicate, List·getD-eq-default}
 use borrow.Author.Tests.{eq-eqb, ne-eqb, lt-ltb, le-ltb, le-leb, lt-leb}
-use Rattle.layouts.specs.Answer.{refused, gives, Copied, refusal, answered}
+use Rattle.layouts.specs.Answer.{Answer, refused, gives, Copied, _when_, refusal, answered}
 use Rattle.layouts.specs.Maclt.{flex, Row, row, table, rowOf, slots, numbers, entry, flxOf, padded, flxChecks, flxIndices, ntOf}
-use Rattle.layouts.specs.Inner.{codedSlots, rowNumber, flxNumber, oneIfSome}
+use Rattle.layouts.specs.inner.Code.{codedSlots, rowNumber, flxNumber, oneIfSome}
 use Rattle.layouts.proofs.Answers.{stop, pass, done}
-use Rattle.layouts.proofs.Tables.{below, holds-below, both-left, both-right}
+use Rattle.layouts.proofs.Tables.{below, holds-below, both-left, both-right, every}
 
 -- The code's numbers, from its match.
 pub row-hit : {k n x : ℕ} → k ≡ n → x ≡ rowNumber (rowOf n table) → x ≡ rowNumber (rowOf k table)
@@ -22,18 +22,36 @@ pub flx-hit : {k n x : ℕ} → k ≡ n → x ≡ flxNumber (rowOf n table) → 
 flx-hit e h = rw e h
 
 -- none of the twelve IDs
-module _ {k : ℕ} (n27 : k ≡ 27 → ⊥) (n28 : k ≡ 28 → ⊥) (n31 : k ≡ 31 → ⊥) (n33 : k ≡ 33 → ⊥) (n34 : k ≡ 34 → ⊥) (n35 : k ≡ 35 → ⊥) (n36 : k ≡ 36 → ⊥) (n37 : k ≡ 37 → ⊥) (n38 : k ≡ 38 → ⊥) (n39 : k ≡ 39 → ⊥) (n40 : k ≡ 40 → ⊥) (n41 : k ≡ 41 → ⊥) where
-  unknown : rowOf k table ≡ row k 0 [] []
-  unfolding table
-  unknown = rw (ne-eqb k 27 n27, ne-eqb k 28 n28, ne-eqb k 31 n31, ne-eqb k 33 n33, ne-eqb k 34 n34, ne-eqb k 35 n35, ne-eqb k 36 n36, ne-eqb k 37 n37, ne-eqb k 38 n38, ne-eqb k 39 n39, ne-eqb k 40 n40, ne-eqb k 41 n41)
+module _
+    {k : ℕ}
+    (n27 : k ≡ 27 → ⊥) (n28 : k ≡ 28 → ⊥) (n31 : k ≡ 31 → ⊥) (n33 : k ≡ 33 → ⊥) (n34 : k ≡ 34 → ⊥) (n35 : k ≡ 35 → ⊥)
+    (n36 : k ≡ 36 → ⊥) (n37 : k ≡ 37 → ⊥) (n38 : k ≡ 38 → ⊥) (n39 : k ≡ 39 → ⊥) (n40 : k ≡ 40 → ⊥) (n41 : k ≡ 41 → ⊥)
+  where
+    unknown : rowOf k table ≡ row k 0 [] []
+    unfolding table
+    unknown =
+        rw (
+          ne-eqb k 27 n27,
+          ne-eqb k 28 n28,
+          ne-eqb k 31 n31,
+          ne-eqb k 33 n33,
+          ne-eqb k 34 n34,
+          ne-eqb k 35 n35,
+          ne-eqb k 36 n36,
+          ne-eqb k 37 n37,
+          ne-eqb k 38 n38,
+          ne-eqb k 39 n39,
+          ne-eqb k 40 n40,
+          ne-eqb k 41 n41,
+        )
 
-  pub row-unknown : 0 ≡ rowNumber (rowOf k table)
-  unfolding rowNumber
-  row-unknown = rw unknown
+    pub row-unknown : 0 ≡ rowNumber (rowOf k table)
+    unfolding rowNumber
+    row-unknown = rw unknown
 
-  pub flx-none : 0 ≡ flxNumber (rowOf k table)
-  unfolding flxNumber
-  flx-none = rw unknown
+    pub flx-none : 0 ≡ flxNumber (rowOf k table)
+    unfolding flxNumber
+    flx-none = rw unknown
 
 -- a slot, by its code
 pub code-hit : {k n : ℕ} {r : List ℕ} → k ≡ n → r ≡ numbers (getD codedSlots n flex) → r ≡ numbers (getD codedSlots k flex)
@@ -51,10 +69,6 @@ pub one-some : {t : ℕ} → (t ≡ 0 → ⊥) → (1 ≡ oneIfSome t) × (1 ≤
 one-some {t} ne = (rw (ne-eqb t 0 ne), omega arith)
 
 -- A test of every row, and of one with no tag, is a test of the row of any ID.
-abbrev every : (Row → Bool) → List Row → Bool
-every test [] = true
-every test (r ∷ rs) = cond (test r) (every test rs) false
-
 passes-on : (test : Row → Bool) (k : ℕ) (rs : List Row) → T (test (row k 0 [] [])) → T (every test rs) → T (test (rowOf k rs))
 passes-on test k [] e t = e
 passes-on test k (r ∷ rs) e t = go (eqb k (r .id)) (passes-on test k rs e (both-right (test r) (every test rs) t))
@@ -97,8 +111,14 @@ slot-right r m t = same (numbers (getD codedSlots (codeIn (rowNumber r) m t) fle
 abbrev tag-right : Row → ℕ → ℕ → Bool
 tag-right r m t = cond (ltb 0 t) (cond (ltb t (r .nt)) (slot-right r m t) true) true
 
+abbrev four-right : Row → ℕ → Bool
+four-right r m = same (fourIn (half (flxNumber r) m)) (padded (flxOf m r))
+
+abbrev count-right : Row → ℕ → Bool
+count-right r m = eqb (countIn (half (flxNumber r) m)) (length (flxOf m r))
+
 abbrev flx-right : Row → ℕ → Bool
-flx-right r m = cond (same (fourIn (half (flxNumber r) m)) (padded (flxOf m r))) (eqb (countIn (half (flxNumber r) m)) (length (flxOf m r))) false
+flx-right r m = cond (four-right r m) (count-right r m) false
 
 module _ (k : ℕ) where
   pub nt-rule : ntIn (rowNumber (rowOf k table)) ≡ rowOf k table .nt
@@ -120,7 +140,8 @@ module _ (k : ℕ) where
       let n : ℕ = m * 10 + t in
       let em : n / 10 ≡ m = omega arith in
       let et : n % 10 ≡ t = omega arith in
-      let ok : T (tag-right (rowOf k table) m t) = rw (em, et) at (holds-below 20 (λ (n : ℕ). tag-right (rowOf k table) (n / 10) (n % 10)) all-right n (omega arith)) in
+      let ok : T (tag-right (rowOf k table) m t) =
+      rw (em, et) at (holds-below 20 (λ (n : ℕ). tag-right (rowOf k table) (n / 10) (n % 10)) all-right n (omega arith)) in
       same→eq _ _ (rw (lt-ltb 0 t (omega arith), lt-ltb t (rowOf k table .nt) ht) at ok)
 
   flx-all : T (below 2 (λ (m : ℕ). flx-right (rowOf k table) m))
@@ -132,10 +153,10 @@ module _ (k : ℕ) where
     ok = holds-below 2 (λ (m : ℕ). flx-right (rowOf k table) m) flx-all m (omega arith)
 
     four-rule : fourIn (half (flxNumber (rowOf k table)) m) ≡ padded (flxOf m (rowOf k table))
-    four-rule = same→eq _ _ (both-left (same (fourIn (half (flxNumber (rowOf k table)) m)) (padded (flxOf m (rowOf k table)))) (eqb (countIn (half (flxNumber (rowOf k table)) m)) (length (flxOf m (rowOf k table)))) ok)
+    four-rule = same→eq _ _ (both-left (four-right (rowOf k table) m) (count-right (rowOf k table) m) ok)
 
     count-rule : countIn (half (flxNumber (rowOf k table)) m) ≡ length (flxOf m (rowOf k table))
-    count-rule = eqb→eq _ _ (both-right (same (fourIn (half (flxNumber (rowOf k table)) m)) (padded (flxOf m (rowOf k table)))) (eqb (countIn (half (flxNumber (rowOf k table)) m)) (length (flxOf m (rowOf k table)))) ok)
+    count-rule = eqb→eq _ _ (both-right (four-right (rowOf k table) m) (count-right (rowOf k table) m) ok)
 
 -- nt, from the code's number
 module _ (k : ℕ) {x : ℕ} (e : x ≡ rowNumber (rowOf k table)) where
@@ -160,26 +181,32 @@ module _ (k m t : ℕ) where
     entry-tag e = pass 7 _ _ _ (le-ltb 1 m hm) (stop 7 _ _ _ tt (eq-eqb t 0 e))
 
     module _ (h0 : t ≡ 0 → ⊥) {x : ℕ} (e : x ≡ rowNumber (rowOf k table)) where
-      pub entry-unknown : ntIn x ≡ 0 → refused 8 ≡ entry k m t
+      -- what is asked is in range: what the other checks say
+      then : {r : Answer}
+          → r ≡ answered (refusal (8 when eqb (rowOf k table .nt) 0 ∷ 9 when leb (rowOf k table .nt) t ∷ []))
+          (gives (numbers (getD (slots m (rowOf k table)) (t - 1) flex)))
+          → r ≡ entry k m t
       unfolding entry
-      entry-unknown h = pass 7 _ _ _ (le-ltb 1 m hm) (pass 7 _ _ _ (ne-eqb t 0 h0) (stop 8 _ _ _ tt (eq-eqb _ 0 (nt-none k e h))))
+      then h = pass 7 _ _ _ (le-ltb 1 m hm) (pass 7 _ _ _ (ne-eqb t 0 h0) h)
+
+      pub entry-unknown : ntIn x ≡ 0 → refused 8 ≡ entry k m t
+      entry-unknown h = then (stop 8 _ _ _ tt (eq-eqb _ 0 (nt-none k e h)))
 
       module _ (h : ntIn x ≡ 0 → ⊥) where
         known : eqb (rowOf k table .nt) 0 ≡ false
         known = ne-eqb (rowOf k table .nt) 0 (nt-some k e h)
 
         pub entry-no-tag : ntIn x ≤ t → refused 9 ≡ entry k m t
-        unfolding entry
         entry-no-tag g =
             let over : rowOf k table .nt ≤ t = rw (nt-is k e) at g in
-            pass 7 _ _ _ (le-ltb 1 m hm) (pass 7 _ _ _ (ne-eqb t 0 h0) (pass 8 _ _ _ known (stop 9 _ _ _ tt (le-leb (rowOf k table .nt) t over))))
+            then (pass 8 _ _ _ known (stop 9 _ _ _ tt (le-leb (rowOf k table .nt) t over)))
 
         pub entry-slot : {r : List ℕ} → t < ntIn x → r ≡ numbers (getD codedSlots (codeIn x m t) flex) → gives r ≡ entry k m t
-        unfolding entry
         entry-slot g q =
             let under : t < rowOf k table .nt = rw (nt-is k e) at g in
-            let slot : numbers (getD codedSlots (codeIn x m t) flex) ≡ numbers (getD (slots m (rowOf k table)) (t - 1) flex) = rw e (slot-rule k m t hm h0 under) in
-            pass 7 _ _ _ (le-ltb 1 m hm) (pass 7 _ _ _ (ne-eqb t 0 h0) (pass 8 _ _ _ known (pass 9 _ _ _ (lt-leb (rowOf k table .nt) t under) (done _ (ap gives (q ∙ slot))))))
+            let slot : numbers (getD codedSlots (codeIn x m t) flex) ≡ numbers (getD (slots m (rowOf k table)) (t - 1) flex) =
+            rw e (slot-rule k m t hm h0 under) in
+            then (pass 8 _ _ _ known (pass 9 _ _ _ (lt-leb (rowOf k table .nt) t under) (done _ (ap gives (q ∙ slot)))))
 
 -- the FLX tags, and nt
 module _ (k m : ℕ) where

@@ -1,21 +1,22 @@
 -- Laws of the parts of a DSM-PKR message.
 -- Assumes nothing.
 use mathlib.Core.Path.{_≡_, refl, sym, ap, _∙_}
-use mathlib.Core.List.{List, [], _∷_}
+use mathlib.Core.List.{List, [], _∷_, _++_}
 use mathlib.Core.Bool.{Bool, true, false, cond}
 use Prim.Native.Nat.{ℕ, _+_, _-_, _*_, _≤_, _<_}
 use native.Mathlib.Omega.{arith}
-use lib.Dec.{leb, eqb, leb→le}
+use lib.Dec.{ltb, leb, eqb, leb→le}
 use lib.ListN.{length}
 use borrow.Author.Tests.{ltb-false, eqb-true, lt-ltb, le-ltb, eq-eqb, ne-eqb}
-use Rattle.layouts.specs.Answer.{Answer, refused, gives, part}
+use Rattle.layouts.specs.Answer.{Answer, refused, gives, _when_, refusal, part}
 use Rattle.layouts.specs.Bits.{the, value, read, reach}
 use Rattle.layouts.specs.Sizes.{size, pkrBlocks, readSize}
-use Rattle.layouts.specs.DsmPkr.{pkrLayout, nodePart, newKeySizes, count, keyBytes, keyChecks, newKeyPart, leafPart, paddingPart}
+use Rattle.layouts.specs.DsmPkr.{pkrLayout, nodePart, newKeySizes, count, keyBytes, keyChecks, newKeyPart, leafPart, paddingChecks, paddingPart}
+use Rattle.layouts.specs.Layouts.{Follow}
 use Rattle.layouts.specs.Meaning.{meaning-number}
 use Rattle.layouts.specs.declared.answer.Number.{Number}
 use Rattle.layouts.specs.declared.answer.Number.the-variants.{Value, Refused}
-use Rattle.layouts.proofs.Answers.{stop, pass, done, refused-too, passed, converse, answer-of}
+use Rattle.layouts.proofs.Answers.{stop, pass, done, refused-too, passed, Passed, none-fails, all-pass, converse, answer-of, given-with}
 use Rattle.layouts.proofs.Readers.{first-of, size-given, size-reserved}
 use Rattle.layouts.proofs.Fields.{field-lt}
 use Rattle.layouts.proofs.Tables.{holds-below}
@@ -67,7 +68,8 @@ module _ (m : List ℕ) where
     pub type-read : 130 ≤ length m
     type-read =
         let gave : gives (v ∷ []) ≡ read (the "NPKT" pkrLayout) m = rw g at e in
-        let h : 1036 ≤ 8 * length m = ltb-false (8 * length m) 1036 (converse (reach (the "NPKT" pkrLayout) m ∷ []) (value (the "NPKT" pkrLayout) m ∷ []) tt gave .0) in
+        let there = converse (reach (the "NPKT" pkrLayout) m ∷ []) (value (the "NPKT" pkrLayout) m ∷ []) tt gave .0 in
+        let h : 1036 ≤ 8 * length m = ltb-false (8 * length m) 1036 there in
         omega arith
 
     module _ {b s : ℕ} (eb : b ≡ count m) (es : s ≡ size (newKeySizes b) v) where
@@ -151,3 +153,32 @@ module _ (m : List ℕ) where
           padding-given h p =
               passed (keyChecks m) _ (keyBytes m ∷ []) _ tt gave
               (pass 6 _ _ _ counted (pass 11 _ _ _ (le-ltb (13 * count m) (130 + keyBytes m) (rw (b, key-long) at h)) (rw (b, key-long) at p)))
+
+  -- where nothing is refused, and the blocks counted are there, key and padding follow one another to their end
+  module _ (z : refusal (paddingChecks m) ≡ 0) (there : 13 * count m ≤ length m) where
+    all-there : Passed (paddingChecks m)
+    all-there = none-fails (paddingChecks m) tt z
+
+    key-in-blocks : 130 + keyBytes m ≤ 13 * count m
+    key-in-blocks = ltb-false (13 * count m) (130 + keyBytes m) (all-there .1 .1 .1 .0)
+
+    key-answer : newKeyPart m ≡ gives (130 ∷ keyBytes m ∷ [])
+    unfolding newKeyPart
+    key-answer =
+        let p = all-there in
+        let h : ltb (length m) (130 + keyBytes m) ≡ false = le-ltb (length m) (130 + keyBytes m) (omega (arith, key-in-blocks)) in
+        sym (given-with _ (gives (130 ∷ keyBytes m ∷ []))
+        (all-pass (keyChecks m ++ (5 when ltb (length m) (130 + keyBytes m) ∷ [])) (p .0, (p .1 .0, (h, tt)))) refl)
+
+    padding-answer : paddingPart m ≡ gives ((130 + keyBytes m) ∷ (13 * count m - (130 + keyBytes m)) ∷ [])
+    unfolding paddingPart
+    padding-answer =
+        let p = all-there in
+        let first : ℕ = 130 + keyBytes m in
+        let many : ℕ = 13 * count m - first in
+        let h : ltb (length m) (first + many) ≡ false = le-ltb (length m) (first + many) (omega (arith, key-in-blocks)) in
+        sym (given-with _ (gives (first ∷ many ∷ []))
+        (all-pass (paddingChecks m ++ (5 when ltb (length m) (first + many) ∷ [])) (p .0, (p .1 .0, (p .1 .1 .0, (p .1 .1 .1 .0, (h, tt)))))) refl)
+
+    pub parts-follow : Follow 130 (newKeyPart m ∷ paddingPart m ∷ []) (13 * count m)
+    parts-follow = rw (key-answer, padding-answer) (refl, (refl, omega (arith, key-in-blocks)))

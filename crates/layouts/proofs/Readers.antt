@@ -15,7 +15,7 @@ use Rattle.layouts.specs.declared.answer.Number.{Number}
 use Rattle.layouts.specs.declared.answer.Number.the-variants.{Value, Refused}
 use Rattle.layouts.specs.declared.answer.Part.{Part}
 use Rattle.layouts.specs.declared.answer.Part.the-variants.{Shown, Refused as NotShown}
-use Rattle.layouts.specs.Inner.{Inside}
+use Rattle.layouts.specs.inner.Code.{Inside}
 use Rattle.layouts.proofs.Answers.{stop, pass, done, refused-too, passed, answer-of, converse, numbered, passed-last}
 use Rattle.layouts.proofs.Fields.{field-lt}
 
@@ -43,6 +43,9 @@ module _ (f : Field) (m : List ℕ) {x : Number} {v : ℕ} (e : meaning-number x
   pub read-lt : v < 2 ^ f .width
   read-lt = rw read-value (field-lt m (f .first) (f .width))
 
+  pub half-byte : f .width ≡ 4 → v < 16
+  half-byte four = rw four at read-lt
+
   -- with a size that its code stands for, or with a reserved code
   pub size-given : (size : ℕ → ℕ) → (size v ≡ 0 → ⊥) → gives (size v ∷ []) ≡ readSize f size m
   size-given size ne =
@@ -60,10 +63,12 @@ module _ (f : Field) (m : List ℕ) {x : Number} {v : ℕ} (e : meaning-number x
       passed (reach f m ∷ []) [] (value f m ∷ []) _ tt gave (done _ (ap gives (h ∙ ap (naming names) read-value)))
 
 -- the field was not there
-pub name-refused : (f : Field) (m : List ℕ) (names : List Named) {x : Number} {n : ℕ} → meaning-number x ≡ read f m → x ≡ Refused n → refused n ≡ readName f names m
+pub name-refused : (f : Field) (m : List ℕ) (names : List Named) {x : Number} {n : ℕ} → meaning-number x ≡ read f m → x ≡ Refused n
+    → refused n ≡ readName f names m
 name-refused f m names e g = refused-too (reach f m ∷ []) [] (value f m ∷ []) _ (rw g at e)
 
-pub size-refused : (f : Field) (m : List ℕ) (size : ℕ → ℕ) {x : Number} {n : ℕ} → meaning-number x ≡ read f m → x ≡ Refused n → refused n ≡ readSize f size m
+pub size-refused : (f : Field) (m : List ℕ) (size : ℕ → ℕ) {x : Number} {n : ℕ} → meaning-number x ≡ read f m → x ≡ Refused n
+    → refused n ≡ readSize f size m
 size-refused f m size e g = refused-too (reach f m ∷ []) (6 when eqb (size (value f m)) 0 ∷ []) (value f m ∷ []) _ (rw g at e)
 
 -- a part that ends past the message, or within it

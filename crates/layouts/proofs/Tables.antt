@@ -35,6 +35,11 @@ holds-below (suc n) f t k h =
       | no ne ↦ holds-below n f (both-right (f n) (below n f) t) k (lt-of-le-ne (le-of-suc-le-suc h) ne)
     ]
 
+-- the test passes at each element of a list
+abbrev pub every : {A : Type 0} → (A → Bool) → List A → Bool
+every test [] = true
+every test (x ∷ xs) = cond (test x) (every test xs) false
+
 -- f at i and the n - 1 numbers behind it
 abbrev from : (ℕ → ℕ) → ℕ → ℕ → List ℕ
 from f i zero = []
@@ -49,7 +54,8 @@ from-at f i (suc n) (suc k) h = from-at f (suc i) n k (le-of-suc-le-suc h) ∙ a
 abbrev pub sixteen : List Size → List ℕ
 sixteen sizes = from (size sizes) 0 16
 
-pub by-table : (start : ℕ) (m : List ℕ) (sizes : List Size) → readSize (row "" start 4) (λ c. getD (sixteen sizes) c 0) m ≡ readSize (row "" start 4) (size sizes) m
+pub by-table : (start : ℕ) (m : List ℕ) (sizes : List Size)
+    → readSize (row "" start 4) (λ c. getD (sixteen sizes) c 0) m ≡ readSize (row "" start 4) (size sizes) m
 by-table start m sizes =
     let f : Field = row "" start 4 in
     ap (λ (n : ℕ). answered (refusal (reach f m ∷ 6 when eqb n 0 ∷ [])) (gives (n ∷ [])))

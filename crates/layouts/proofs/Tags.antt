@@ -16,13 +16,14 @@ use Rattle.layouts.specs.Answer.{Answer, refused, gives, Copied, Check, 
 use Rattle.layouts.specs.Bits.{field, bytesFrom}
 use Rattle.layouts.specs.Sizes.{keySizes, tagSizes, Named, naming}
 use Rattle.layouts.specs.Mack.{listed, sizesOf, bytesOf, sizeChecks, mackChecks, nt, tagChecks, prndName, keyChecks, keyCopied}
+use Rattle.layouts.specs.inner.Code.{Room}
 use Rattle.layouts.specs.Meaning.{meaning-number}
 use Rattle.layouts.specs.declared.answer.Number.{Number}
 use Rattle.layouts.specs.declared.answer.Number.the-variants.{Value, Refused}
 use Rattle.layouts.proofs.Answers.{none-fails, refused-with, given-with, stopped, went-on, refused-same, given-same, answer-of}
 use Rattle.layouts.proofs.Readers.{first-of}
 use Rattle.layouts.proofs.Copies.{copy-more, copy-all}
-use Rattle.layouts.proofs.Tables.{both-left, both-right}
+use Rattle.layouts.proofs.Tables.{both-left, both-right, every}
 
 -- a size in a list, from the code's match
 in-later : (n s : ℕ) (ss : List ℕ) → OneOf (s ∷ ss) n → true ≡ listed n (s ∷ ss)
@@ -48,22 +49,15 @@ unfolding listed
 not-in-list n [] e = refl
 not-in-list n (s ∷ ss) e = out-later n s ss e
 
--- what is listed lies between two bounds
-abbrev all-within : ℕ → ℕ → List ℕ → Bool
-all-within lo hi [] = true
-all-within lo hi (s ∷ ss) = cond (cond (leb lo s) (leb s hi) false) (all-within lo hi ss) false
-
-within : (lo hi n : ℕ) (ss : List ℕ) → T (all-within lo hi ss) → listed n ss ≡ true → (lo ≤ n) × (n ≤ hi)
+-- a test of every number of a list is a test of any that is listed
+pub of-listed : (test : ℕ → Bool) (n : ℕ) (ss : List ℕ) → T (every test ss) → listed n ss ≡ true → T (test n)
 unfolding listed
-within lo hi n [] t e = let f : false ≡ true = e in let z : _≡_ {A = ℕ} 0 1 = cc in absurd (omega arith)
-within lo hi n (s ∷ ss) t e =
-    go (eqb n s) refl (both-left (cond (leb lo s) (leb s hi) false) (all-within lo hi ss) t) (within lo hi n ss (both-right (cond (leb lo s) (leb s hi) false) (all-within lo hi ss) t)) e
+of-listed test n [] t e = let f : false ≡ true = e in let z : _≡_ {A = ℕ} 0 1 = cc in absurd (omega arith)
+of-listed test n (s ∷ ss) t e =
+    go (eqb n s) refl (both-left (test s) (every test ss) t) (of-listed test n ss (both-right (test s) (every test ss) t)) e
   where
-    go : (b : Bool) → eqb n s ≡ b → T (cond (leb lo s) (leb s hi) false) → (listed n ss ≡ true → (lo ≤ n) × (n ≤ hi)) → cond b true (listed n ss) ≡ true → (lo ≤ n) × (n ≤ hi)
-    go true b t ih h =
-        let l : lo ≤ s = leb→le lo s (both-left (leb lo s) (leb s hi) t) in
-        let r : s ≤ hi = leb→le s hi (both-right (leb lo s) (leb s hi) t) in
-        (omega (arith, eqb-true n s b), omega (arith, eqb-true n s b))
+    go : (b : Bool) → eqb n s ≡ b → T (test s) → (listed n ss ≡ true → T (test n)) → cond b true (listed n ss) ≡ true → T (test n)
+    go true b t ih h = rw (eqb-true n s b) t
     go false b t ih h = ih h
 
 -- a key's size in bits, and in bytes
@@ -105,10 +99,16 @@ whole-of K h = go (eqb (K % 8) 0) refl h
 good-sizes : (K T : ℕ) → listed (8 * bytesOf K) (sizesOf keySizes) ≡ true → listed T (sizesOf tagSizes) ≡ true → Good K T
 unfolding keySizes tagSizes
 good-sizes K T k t =
-    let a = within 96 256 (8 * bytesOf K) (sizesOf keySizes) tt k in
-    let b = within 20 40 T (sizesOf tagSizes) tt t in
-    let w : 8 * bytesOf K ≡ K = whole-of K (a .0) in
-    record { whole = w; key-some = omega arith; key-few = omega arith; tag-some = b .0; tag-few = b .1 }
+    let some : 96 ≤ 8 * bytesOf K = leb→le _ _ (of-listed (λ s. leb 96 s) (8 * bytesOf K) (sizesOf keySizes) tt k) in
+    let few : 8 * bytesOf K ≤ 256 = leb→le _ _ (of-listed (λ s. leb s 256) (8 * bytesOf K) (sizesOf keySizes) tt k) in
+    let w : 8 * bytesOf K ≡ K = whole-of K some in
+    record {
+      whole = w;
+      key-some = omega arith;
+      key-few = omega arith;
+      tag-some = leb→le _ _ (of-listed (λ s. leb 20 s) T (sizesOf tagSizes) tt t);
+      tag-few = leb→le _ _ (of-listed (λ s. leb s 40) T (sizesOf tagSizes) tt t);
+    }
 
 pub good : (K T : ℕ) → refusal (sizeChecks (bytesOf K) T) ≡ 0 → Good K T
 good K T e =
@@ -198,15 +198,12 @@ module _ (m : List ℕ) (K T n : ℕ) where
         tag-there h = then (rw (ne-eqb n 0 h0, ← tags-are, lt-leb t n h))
 
   -- room in the message for tag n and its info
-  abbrev Room : ℕ → Type 0
-  Room i = (length m ≡ 60) × (i * (T + 16) + T + 16 ≤ 480) × (T ≤ 40)
-
-  pub header-room : {q : ℕ} → q ≡ refusal (mackChecks m (bytesOf K) T) → q ≡ 0 → Room 0
+  pub header-room : {q : ℕ} → q ≡ refusal (mackChecks m (bytesOf K) T) → q ≡ 0 → Room m T 0
   header-room e z =
       let g = good-mack m K T (sym e ∙ z) in
       (sixty m K T (sym e ∙ z), omega (arith, g .tag-few, zero-mul (T + 16)), g .tag-few)
 
-  pub tag-room : {q : ℕ} → q ≡ refusal (tagChecks m (bytesOf K) T n) → q ≡ 0 → Room n
+  pub tag-room : {q : ℕ} → q ≡ refusal (tagChecks m (bytesOf K) T n) → q ≡ 0 → Room m T n
   tag-room e z =
       let p = none-fails (tagChecks m (bytesOf K) T n) tt (sym e ∙ z) in
       let g = good-sizes K T (not-false _ (p .1 .0)) (not-false _ (p .1 .1 .0)) in
@@ -218,13 +215,31 @@ module _ (K T : ℕ) {q : ℕ} (e : q ≡ refusal (sizeChecks (bytesOf K) T)) wh
   pub num-tags-refused : (q ≡ 0 → ⊥) → refused q ≡ answered (refusal (sizeChecks (bytesOf K) T)) (gives (nt (bytesOf K) T ∷ []))
   num-tags-refused ne = rw (← e) (refused-with q _ ne)
 
-  pub num-tags-given : {t : ℕ} → q ≡ 0 → t ≡ (480 - K) / (T + 16) → gives (t ∷ []) ≡ answered (refusal (sizeChecks (bytesOf K) T)) (gives (nt (bytesOf K) T ∷ []))
+  pub num-tags-given : {t : ℕ} → q ≡ 0 → t ≡ (480 - K) / (T + 16)
+      → gives (t ∷ []) ≡ answered (refusal (sizeChecks (bytesOf K) T)) (gives (nt (bytesOf K) T ∷ []))
   num-tags-given z h = rw (← e) (given-with q _ z (ap (λ (x : ℕ). gives (x ∷ [])) (h ∙ nt-bits K T (good K T (sym e ∙ z)))))
 
--- a field that was read: the refusal is the promise's, and the place
-pub read-at : (m : List ℕ) (w : ℕ) (cs : List Check) (s t : ℕ) {q : ℕ} {r : Answer} → q ≡ refusal cs → s ≡ t → r ≡ answered q (gives (field m s w ∷ []))
-    → r ≡ answered (refusal cs) (gives (field m t w ∷ []))
-read-at m w cs s t e f h = rw (e, f) at h
+-- a field that was read: the refusal is the promise's, and the place is that of tag 0, of the header's other fields, of a tag and of its info
+module _ (m : List ℕ) (w : ℕ) (cs : List Check) {q : ℕ} {r : Answer} (e : q ≡ refusal cs) where
+  pub read-tag : (s : ℕ) → r ≡ answered q (gives (field m s w ∷ [])) → r ≡ answered (refusal cs) (gives (field m s w ∷ []))
+  read-tag s h = rw e at h
+
+  moved : (s t : ℕ) → s ≡ t → r ≡ answered q (gives (field m s w ∷ [])) → r ≡ answered (refusal cs) (gives (field m t w ∷ []))
+  moved s t f h = rw (e, f) at h
+
+  pub read-tag0 : (T : ℕ) → r ≡ answered q (gives (field m (0 * (T + 16)) w ∷ [])) → r ≡ answered (refusal cs) (gives (field m 0 w ∷ []))
+  read-tag0 T h = moved (0 * (T + 16)) 0 (omega arith) h
+
+  pub read-header : (T o : ℕ) → r ≡ answered q (gives (field m (0 * (T + 16) + T + o) w ∷ []))
+      → r ≡ answered (refusal cs) (gives (field m (T + o) w ∷ []))
+  read-header T o h = moved (0 * (T + 16) + T + o) (T + o) (omega arith) h
+
+  pub read-macseq : (T : ℕ) → r ≡ answered q (gives (field m (0 * (T + 16) + T + 0) w ∷ []))
+      → r ≡ answered (refusal cs) (gives (field m T w ∷ []))
+  read-macseq T h = moved (0 * (T + 16) + T + 0) T (omega arith) h
+
+  pub read-info : (s : ℕ) → r ≡ answered q (gives (field m (s + 0) w ∷ [])) → r ≡ answered (refusal cs) (gives (field m s w ∷ []))
+  read-info s h = moved (s + 0) s (omega arith) h
 
 -- a name, after the number
 module _ (cs : List Check) (w : ℕ) {x : Number} (e : meaning-number x ≡ answered (refusal cs) (gives (w ∷ []))) where
@@ -282,15 +297,19 @@ key-turn m d now s i e h eb =
 
 pub key-copied : (m d : List ℕ) (s : ℕ) → take (length d) (bytesFrom m s (length d)) ++ drop (length d) d ≡ bytesFrom m s (length d)
 key-copied m d s =
-    copy-all (bytesFrom m s (length d)) d (length d) (le-refl (length d)) ∙ take-all (length d) (bytesFrom m s (length d)) (rw (bytes-long m s (length d)) (le-refl (length d)))
+    copy-all (bytesFrom m s (length d)) d (length d) (le-refl (length d))
+    ∙ take-all (length d) (bytesFrom m s (length d)) (rw (bytes-long m s (length d)) (le-refl (length d)))
 
 -- The key's answers, each from the tests that lead to it.
 module _ (m : List ℕ) (K T : ℕ) (out : List ℕ) {q : ℕ} (e : q ≡ refusal (mackChecks m (bytesOf K) T)) where
-  refused-key : (n : ℕ) → refusal (keyChecks m (bytesOf K) T out) ≡ n → (n ≡ 0 → ⊥) → _≡_ {A = Copied} (record { answer = refused n; bytes = out }) (keyCopied m (bytesOf K) T out)
+  abbrev Copies : Answer → List ℕ → Type 0
+  Copies a l = _≡_ {A = Copied} (record { answer = a; bytes = l }) (keyCopied m (bytesOf K) T out)
+
+  refused-key : (n : ℕ) → refusal (keyChecks m (bytesOf K) T out) ≡ n → (n ≡ 0 → ⊥) → Copies (refused n) out
   unfolding keyCopied answered
   refused-key n f ne = rw (f, ne-eqb n 0 ne)
 
-  pub key-refused : (q ≡ 0 → ⊥) → _≡_ {A = Copied} (record { answer = refused q; bytes = out }) (keyCopied m (bytesOf K) T out)
+  pub key-refused : (q ≡ 0 → ⊥) → Copies (refused q) out
   key-refused ne = refused-key q (sym (stopped (mackChecks m (bytesOf K) T) _ e ne)) ne
 
   module _ (z : q ≡ 0) where
@@ -306,12 +325,12 @@ module _ (m : List ℕ) (K T : ℕ) (out : List ℕ) {q : ℕ} (e : q ≡ refusa
     key-then : {r : ℕ} → r ≡ refusal (1 when not (eqb (length out) (bytesOf K)) ∷ []) → refusal (keyChecks m (bytesOf K) T out) ≡ r
     key-then h = sym (went-on (mackChecks m (bytesOf K) T) _ tt e z h)
 
-    pub key-length : (length out ≡ K / 8 → ⊥) → _≡_ {A = Copied} (record { answer = refused 1; bytes = out }) (keyCopied m (bytesOf K) T out)
+    pub key-length : (length out ≡ K / 8 → ⊥) → Copies (refused 1) out
     unfolding refusal
     key-length ne = refused-key 1 (key-then (rw (ne-eqb (length out) (bytesOf K) (λ h. ne (h ∙ key-bytes))))) (λ h. omega arith)
 
     pub key-done : {t : ℕ} {l : List ℕ} → length out ≡ K / 8 → t ≡ (480 - K) / (T + 16) → l ≡ bytesFrom m (t * (T + 16)) (length out)
-        → _≡_ {A = Copied} (record { answer = gives []; bytes = l }) (keyCopied m (bytesOf K) T out)
+        → Copies (gives []) l
     unfolding keyCopied answered refusal
     key-done h et el =
         let none : refusal (keyChecks m (bytesOf K) T out) ≡ 0 = key-then (rw (eq-eqb (length out) (bytesOf K) (h ∙ sym key-bytes))) in

@@ -6,19 +6,14 @@ use mathlib.Core.Bool.{cond}
 use Prim.Native.Nat.{ℕ}
 use lib.ListN.{getD}
 use lib.Dec.{eqb}
-use Rattle.layouts.specs.Agree.{Agree}
+use Rattle.layouts.specs.Agree.{Agree, AgreeWith}
+use Rattle.layouts.specs.Agreed.{Agreed}
 use Rattle.layouts.specs.Answer.{Answer, refused, nothing, gives, Copied}
-use Rattle.layouts.specs.Meaning.{meaning-number, meaning-part, meaning-copy, meaning-status, meaning-chain-status, meaning-type, meaning-hash, meaning-mac, meaning-ecdsa, meaning-key-type, meaning-adkd, meaning-prnd, meaning-slot, meaning-page-kind}
-use Rattle.layouts.specs.BitReader.{ReadBits}
-use Rattle.layouts.specs.Numbers.{Wide, Smaller}
-use Rattle.layouts.specs.Gst.{SvnRefuses, GstRefuses}
-use Rattle.layouts.specs.InavPage.{PageKindRead, OsnmaRead}
-use Rattle.layouts.specs.NmaHeader.{NmaStatusRead, ChainIdRead, ChainAndPubkeyStatusRead}
-use Rattle.layouts.specs.DsmHeader.{DsmIdRead, DsmBlockIdRead, DsmTypeRead}
-use Rattle.layouts.specs.DsmKroot as kroot
+use Rattle.layouts.specs.Meaning.{meaning-number, meaning-part, meaning-copy, meaning-status, meaning-chain-status, meaning-type, meaning-hash}
+use Rattle.layouts.specs.Meaning.{meaning-mac, meaning-ecdsa, meaning-key-type, meaning-adkd, meaning-prnd, meaning-slot, meaning-page-kind}
+use Rattle.layouts.specs.InavPage.{OsnmaRead}
 use Rattle.layouts.specs.DsmPkr as pkr
-use Rattle.layouts.specs.Mack as mack
-use Rattle.layouts.specs.MacltPromises.{MacltEntryRead, FlxIndicesRead, NtRead}
+use Rattle.layouts.specs.MacltPromises.{FlxIndicesRead}
 use Rattle.layouts.specs.declared.answer.Number.{Number}
 use Rattle.layouts.specs.declared.answer.Number.the-variants.{Value, Refused}
 use Rattle.layouts.specs.declared.answer.Part.{Part}
@@ -26,7 +21,8 @@ use Rattle.layouts.specs.declared.answer.Part.the-variants.{Shown, Refus
 use Rattle.layouts.specs.declared.nma_header.NmaStatus.{NmaStatus}
 use Rattle.layouts.specs.declared.nma_header.NmaStatus.the-variants.{Reserved as StatusReserved, Test, Operational, DontUse}
 use Rattle.layouts.specs.declared.nma_header.ChainAndPubkeyStatus.{ChainAndPubkeyStatus}
-use Rattle.layouts.specs.declared.nma_header.ChainAndPubkeyStatus.the-variants.{Reserved, Nominal, EndOfChain, ChainRevoked, NewPublicKey, PublicKeyRevoked, NewMerkleTree, AlertMessage}
+use Rattle.layouts.specs.declared.nma_header.ChainAndPubkeyStatus.the-variants.{Reserved, Nominal, EndOfChain, ChainRevoked}
+use Rattle.layouts.specs.declared.nma_header.ChainAndPubkeyStatus.the-variants.{NewPublicKey, PublicKeyRevoked, NewMerkleTree, AlertMessage}
 use Rattle.layouts.specs.declared.dsm_header.DsmType.{DsmType}
 use Rattle.layouts.specs.declared.dsm_header.DsmType.the-variants.{Kroot, Pkr}
 use Rattle.layouts.specs.declared.dsm_kroot.HashFunction.the-variants.{Sha256, «Sha3_256», Reserved as HashReserved}
@@ -137,7 +133,9 @@ undo-type Kroot = refl
 undo-type Pkr = refl
 
 abbrev back-hash : Answer → HashFunctionAnswer
-back-hash = answer HashRefused (HashRefused 0) (one (λ v. (cond (eqb v 0) (HashIs Sha256) (cond (eqb v 2) (HashIs «Sha3_256») (HashIs HashReserved)))) (HashIs HashReserved))
+back-hash =
+    answer HashRefused (HashRefused 0)
+    (one (λ v. (cond (eqb v 0) (HashIs Sha256) (cond (eqb v 2) (HashIs «Sha3_256») (HashIs HashReserved)))) (HashIs HashReserved))
 
 undo-hash : (r : HashFunctionAnswer) → back-hash (meaning-hash r) ≡ r
 undo-hash (HashIs Sha256) = refl
@@ -146,7 +144,9 @@ undo-hash (HashIs HashReserved) = refl
 undo-hash (HashRefused n) = refl
 
 abbrev back-mac : Answer → MacFunctionAnswer
-back-mac = answer MacRefused (MacRefused 0) (one (λ v. (cond (eqb v 0) (MacIs HmacSha256) (cond (eqb v 1) (MacIs CmacAes) (MacIs MacReserved)))) (MacIs MacReserved))
+back-mac =
+    answer MacRefused (MacRefused 0)
+    (one (λ v. (cond (eqb v 0) (MacIs HmacSha256) (cond (eqb v 1) (MacIs CmacAes) (MacIs MacReserved)))) (MacIs MacReserved))
 
 undo-mac : (r : MacFunctionAnswer) → back-mac (meaning-mac r) ≡ r
 undo-mac (MacIs HmacSha256) = refl
@@ -162,8 +162,13 @@ undo-ecdsa (EcdsaIs P256Sha256) = refl
 undo-ecdsa (EcdsaIs P521Sha512) = refl
 undo-ecdsa (EcdsaRefused n) = refl
 
+abbrev key-type-of : ℕ → NewPublicKeyTypeAnswer
+key-type-of v =
+    cond (eqb v 1) (TypeIs (EcdsaKey P256Sha256))
+    (cond (eqb v 3) (TypeIs (EcdsaKey P521Sha512)) (cond (eqb v 4) (TypeIs OsnmaAlertMessage) (TypeIs TypeReserved)))
+
 abbrev back-key-type : Answer → NewPublicKeyTypeAnswer
-back-key-type = answer TypeRefused (TypeRefused 0) (one (λ v. (cond (eqb v 1) (TypeIs (EcdsaKey P256Sha256)) (cond (eqb v 3) (TypeIs (EcdsaKey P521Sha512)) (cond (eqb v 4) (TypeIs OsnmaAlertMessage) (TypeIs TypeReserved))))) (TypeIs TypeReserved))
+back-key-type = answer TypeRefused (TypeRefused 0) (one key-type-of (TypeIs TypeReserved))
 
 undo-key-type : (r : NewPublicKeyTypeAnswer) → back-key-type (meaning-key-type r) ≡ r
 undo-key-type (TypeIs (EcdsaKey P256Sha256)) = refl
@@ -239,6 +244,19 @@ undo-page-kind (KindRefused n) = refl
 pub plain : {A : Type 0} (a : A) → Agree (λ r. r ≡ a)
 plain a r s p q = p ∙ sym q
 
+-- an answer beside bytes
+beside :
+    {A : Type 0} (meaning : A → Answer)
+    → ((a : Answer) → Agree (λ r. meaning r ≡ a))
+    → (c : Copied)
+    → AgreeWith (λ r x. _≡_ {A = Copied} (record { answer = meaning r; bytes = x }) c)
+beside meaning unique c r s x y p q =
+    let e : _≡_ {A = Copied} (record { answer = meaning r; bytes = x }) (record { answer = meaning s; bytes = y }) = p ∙ sym q in
+    (unique _ r s (ap (λ (c : Copied). c .answer) e) refl, ap (λ (c : Copied). c .bytes) e)
+
+copies : (a : Answer) → Agree (λ r. meaning-copy r ≡ a)
+copies = by-meaning meaning-copy back-copy undo-copy
+
 abbrev indices : Number → List ℕ → FlxIndices
 indices a b = record { count = a; indices = b }
 
@@ -248,200 +266,81 @@ node a b = record { answer = a; bytes = b }
 abbrev osnma-field : Copy → List ℕ → OsnmaField
 osnma-field a b = record { answer = a; bytes = b }
 
--- Every public function, in the order of the files.
-pub wide : (x : ℕ) → Agree (Wide x)
-wide x = plain _
-
-pub smaller : (a b : ℕ) → Agree (Smaller a b)
-smaller a b = plain _
-
-pub svn-refuses : (satellite : ℕ) → Agree (SvnRefuses satellite)
-svn-refuses satellite = plain _
-
-pub gst-refuses : (satellite week time : ℕ) → Agree (GstRefuses satellite week time)
-gst-refuses satellite week time = plain _
-
-pub page-kind : (page : List ℕ) → Agree (PageKindRead page)
-page-kind page = by-meaning meaning-page-kind back-page-kind undo-page-kind _
-
-pub page-osnma : (page : List ℕ) → Agree (OsnmaRead page)
+page-osnma : (page : List ℕ) → Agree (OsnmaRead page)
 page-osnma page r s p q =
-    let e : _≡_ {A = Copied} (record { answer = meaning-copy (r .answer); bytes = r .bytes }) (record { answer = meaning-copy (s .answer); bytes = s .bytes }) =
-    p ∙ sym q in
-    ap₂ osnma-field (by-meaning meaning-copy back-copy undo-copy _ (r .answer) (s .answer) (ap (λ (c : Copied). c .answer) e) refl)
-    (ap (λ (c : Copied). c .bytes) e)
+    let e = beside meaning-copy copies _ (r .answer) (s .answer) (r .bytes) (s .bytes) p q in ap₂ osnma-field (e .0) (e .1)
 
-pub read-bits : (m : List ℕ) (start width : ℕ) → Agree (ReadBits m start width)
-read-bits m start width = numbers _
+tree-node : (m : List ℕ) (n : ℕ) → Agree (pkr.IntermediateTreeNode m n)
+tree-node m n r s p q =
+    let e = beside meaning-part parts _ (r .answer) (s .answer) (r .bytes) (s .bytes) p q in ap₂ node (e .0) (e .1)
 
-pub nma-status : (header : ℕ) → Agree (NmaStatusRead header)
-nma-status header = by-meaning meaning-status back-status undo-status _
+flx-indices : (i message : ℕ) → Agree (FlxIndicesRead i message)
+flx-indices i message r s p q =
+    let e = beside meaning-number numbers _ (r .count) (s .count) (r .indices) (s .indices) p q in ap₂ indices (e .0) (e .1)
 
-pub chain-id : (header : ℕ) → Agree (ChainIdRead header)
-chain-id header = plain _
-
-pub chain-and-pubkey-status : (header : ℕ) → Agree (ChainAndPubkeyStatusRead header)
-chain-and-pubkey-status header = by-meaning meaning-chain-status back-chain-status undo-chain-status _
-
-pub dsm-id : (header : ℕ) → Agree (DsmIdRead header)
-dsm-id header = plain _
-
-pub dsm-block-id : (header : ℕ) → Agree (DsmBlockIdRead header)
-dsm-block-id header = plain _
-
-pub dsm-type : (header : ℕ) → Agree (DsmTypeRead header)
-dsm-type header = by-meaning meaning-type back-type undo-type _
-
-module _ (m : List ℕ) where
-  pub kroot-number-of-blocks : Agree (kroot.NumberOfBlocks m)
-  kroot-number-of-blocks = numbers _
-
-  pub kroot-public-key-id : Agree (kroot.PublicKeyId m)
-  kroot-public-key-id = numbers _
-
-  pub kroot-chain-id : Agree (kroot.KrootChainId m)
-  kroot-chain-id = numbers _
-
-  pub kroot-hash-function-number : Agree (kroot.HashFunctionNumber m)
-  kroot-hash-function-number = numbers _
-
-  pub kroot-hash-function : Agree (kroot.HashFunctionRead m)
-  kroot-hash-function = by-meaning meaning-hash back-hash undo-hash _
-
-  pub kroot-mac-function-number : Agree (kroot.MacFunctionNumber m)
-  kroot-mac-function-number = numbers _
-
-  pub kroot-mac-function : Agree (kroot.MacFunctionRead m)
-  kroot-mac-function = by-meaning meaning-mac back-mac undo-mac _
-
-  pub kroot-key-size : Agree (kroot.KeySize m)
-  kroot-key-size = numbers _
-
-  pub kroot-tag-size : Agree (kroot.TagSize m)
-  kroot-tag-size = numbers _
-
-  pub kroot-mac-lookup-table : Agree (kroot.MacLookupTable m)
-  kroot-mac-lookup-table = numbers _
-
-  pub kroot-wn : Agree (kroot.KrootWn m)
-  kroot-wn = numbers _
-
-  pub kroot-towh : Agree (kroot.KrootTowh m)
-  kroot-towh = numbers _
-
-  pub kroot-alpha : Agree (kroot.Alpha m)
-  kroot-alpha = numbers _
-
-  pub kroot-ecdsa-function : Agree (kroot.EcdsaFunctionRead m)
-  kroot-ecdsa-function = by-meaning meaning-ecdsa back-ecdsa undo-ecdsa _
-
-  pub kroot-shown : Agree (kroot.KrootShown m)
-  kroot-shown = parts _
-
-  pub kroot-bytes : Agree (kroot.Kroot m)
-  kroot-bytes = plain _
-
-  pub kroot-digital-signature-shown : Agree (kroot.DigitalSignatureShown m)
-  kroot-digital-signature-shown = parts _
-
-  pub kroot-digital-signature : Agree (kroot.DigitalSignature m)
-  kroot-digital-signature = plain _
-
-  pub kroot-padding-shown : Agree (kroot.PaddingShown m)
-  kroot-padding-shown = parts _
-
-  pub kroot-padding : Agree (kroot.Padding m)
-  kroot-padding = plain _
-
-  pub pkr-number-of-blocks : Agree (pkr.NumberOfBlocks m)
-  pkr-number-of-blocks = numbers _
-
-  pub pkr-message-id : Agree (pkr.MessageId m)
-  pkr-message-id = numbers _
-
-  pub pkr-new-public-key-type-number : Agree (pkr.NewPublicKeyTypeNumber m)
-  pkr-new-public-key-type-number = numbers _
-
-  pub pkr-new-public-key-type : Agree (pkr.NewPublicKeyTypeRead m)
-  pkr-new-public-key-type = by-meaning meaning-key-type back-key-type undo-key-type _
-
-  pub pkr-new-public-key-id : Agree (pkr.NewPublicKeyId m)
-  pkr-new-public-key-id = numbers _
-
-  pub pkr-key-size : Agree (pkr.KeySize m)
-  pkr-key-size = numbers _
-
-  pub pkr-new-public-key-shown : Agree (pkr.NewPublicKeyShown m)
-  pkr-new-public-key-shown = parts _
-
-  pub pkr-new-public-key : Agree (pkr.NewPublicKey m)
-  pkr-new-public-key = plain _
-
-  pub pkr-merkle-tree-leaf-shown : Agree (pkr.MerkleTreeLeafShown m)
-  pkr-merkle-tree-leaf-shown = parts _
-
-  pub pkr-merkle-tree-leaf : Agree (pkr.MerkleTreeLeaf m)
-  pkr-merkle-tree-leaf = plain _
-
-  pub pkr-padding-shown : Agree (pkr.PaddingShown m)
-  pkr-padding-shown = parts _
-
-  pub pkr-padding : Agree (pkr.Padding m)
-  pkr-padding = plain _
-
-  pub pkr-intermediate-tree-node : (n : ℕ) → Agree (pkr.IntermediateTreeNode m n)
-  pkr-intermediate-tree-node n r s p q =
-      let e : _≡_ {A = Copied} (record { answer = meaning-part (r .answer); bytes = r .bytes }) (record { answer = meaning-part (s .answer); bytes = s .bytes }) = p ∙ sym q in
-      ap₂ node (parts _ (r .answer) (s .answer) (ap (λ (c : Copied). c .answer) e) refl) (ap (λ (c : Copied). c .bytes) e)
-
-pub num-tags : (K T : ℕ) → Agree (mack.NumTags K T)
-num-tags K T = numbers _
-
-module _ (m : List ℕ) (K T : ℕ) where
-  pub tag0 : Agree (mack.Tag0 m K T)
-  tag0 = numbers _
-
-  pub macseq : Agree (mack.Macseq m K T)
-  macseq = numbers _
-
-  pub cop : Agree (mack.Cop m K T)
-  cop = numbers _
-
-  module _ (n : ℕ) where
-    pub tag : Agree (mack.Tag m K T n)
-    tag = numbers _
-
-    pub tag-info : Agree (mack.TagInfo m K T n)
-    tag-info = numbers _
-
-    pub prnd-number : Agree (mack.PrndNumber m K T n)
-    prnd-number = numbers _
-
-    pub prnd : Agree (mack.PrndRead m K T n)
-    prnd = by-meaning meaning-prnd back-prnd undo-prnd _
-
-    pub adkd-number : Agree (mack.AdkdNumber m K T n)
-    adkd-number = numbers _
-
-    pub adkd : Agree (mack.AdkdRead m K T n)
-    adkd = by-meaning meaning-adkd back-adkd undo-adkd _
-
-    pub tag-cop : Agree (mack.TagCop m K T n)
-    tag-cop = numbers _
-
-  -- the answer, and what the output then has
-  pub key : (out : List ℕ) (r s : Copy) (x y : List ℕ) → mack.Key m K T out r x → mack.Key m K T out s y → (r ≡ s) × (x ≡ y)
-  key out r s x y p q =
-      let e : _≡_ {A = Copied} (record { answer = meaning-copy r; bytes = x }) (record { answer = meaning-copy s; bytes = y }) = p ∙ sym q in
-      (by-meaning meaning-copy back-copy undo-copy _ r s (ap (λ (c : Copied). c .answer) e) refl, ap (λ (c : Copied). c .bytes) e)
-
-pub get-maclt-entry : (i message tag : ℕ) → Agree (MacltEntryRead i message tag)
-get-maclt-entry i message tag = by-meaning meaning-slot back-slot undo-slot _
-
-pub get-flx-indices : (i message : ℕ) → Agree (FlxIndicesRead i message)
-get-flx-indices i message r s p q =
-    let e : _≡_ {A = Copied} (record { answer = meaning-number (r .count); bytes = r .indices }) (record { answer = meaning-number (s .count); bytes = s .indices }) = p ∙ sym q in
-    ap₂ indices (numbers _ (r .count) (s .count) (ap (λ (c : Copied). c .answer) e) refl) (ap (λ (c : Copied). c .bytes) e)
-
-pub nt : (i : ℕ) → Agree (NtRead i)
-nt i = numbers _
+-- every public function
+pub agreed : Agreed
+agreed =
+    record {
+      wide = λ x. plain _;
+      smaller = λ a b. plain _;
+      svn-refuses = λ satellite. plain _;
+      gst-refuses = λ satellite week time. plain _;
+      page-kind = λ page. by-meaning meaning-page-kind back-page-kind undo-page-kind _;
+      page-osnma = page-osnma;
+      read-bits = λ m start width. numbers _;
+      nma-status = λ header. by-meaning meaning-status back-status undo-status _;
+      chain-id = λ header. plain _;
+      chain-and-pubkey-status = λ header. by-meaning meaning-chain-status back-chain-status undo-chain-status _;
+      dsm-id = λ header. plain _;
+      dsm-block-id = λ header. plain _;
+      dsm-type = λ header. by-meaning meaning-type back-type undo-type _;
+      kroot-number-of-blocks = λ m. numbers _;
+      kroot-public-key-id = λ m. numbers _;
+      kroot-chain-id = λ m. numbers _;
+      kroot-hash-function-number = λ m. numbers _;
+      kroot-hash-function = λ m. by-meaning meaning-hash back-hash undo-hash _;
+      kroot-mac-function-number = λ m. numbers _;
+      kroot-mac-function = λ m. by-meaning meaning-mac back-mac undo-mac _;
+      kroot-key-size = λ m. numbers _;
+      kroot-tag-size = λ m. numbers _;
+      kroot-mac-lookup-table = λ m. numbers _;
+      kroot-wn = λ m. numbers _;
+      kroot-towh = λ m. numbers _;
+      kroot-alpha = λ m. numbers _;
+      kroot-ecdsa-function = λ m. by-meaning meaning-ecdsa back-ecdsa undo-ecdsa _;
+      kroot-shown = λ m. parts _;
+      kroot-bytes = λ m. plain _;
+      kroot-digital-signature-shown = λ m. parts _;
+      kroot-digital-signature = λ m. plain _;
+      kroot-padding-shown = λ m. parts _;
+      kroot-padding = λ m. plain _;
+      pkr-number-of-blocks = λ m. numbers _;
+      pkr-message-id = λ m. numbers _;
+      pkr-new-public-key-type-number = λ m. numbers _;
+      pkr-new-public-key-type = λ m. by-meaning meaning-key-type back-key-type undo-key-type _;
+      pkr-new-public-key-id = λ m. numbers _;
+      pkr-key-size = λ m. numbers _;
+      pkr-new-public-key-shown = λ m. parts _;
+      pkr-new-public-key = λ m. plain _;
+      pkr-merkle-tree-leaf-shown = λ m. parts _;
+      pkr-merkle-tree-leaf = λ m. plain _;
+      pkr-padding-shown = λ m. parts _;
+      pkr-padding = λ m. plain _;
+      pkr-intermediate-tree-node = tree-node;
+      num-tags = λ K T. numbers _;
+      tag0 = λ m K T. numbers _;
+      macseq = λ m K T. numbers _;
+      cop = λ m K T. numbers _;
+      tag = λ m K T n. numbers _;
+      tag-info = λ m K T n. numbers _;
+      prnd-number = λ m K T n. numbers _;
+      prnd = λ m K T n. by-meaning meaning-prnd back-prnd undo-prnd _;
+      adkd-number = λ m K T n. numbers _;
+      adkd = λ m K T n. by-meaning meaning-adkd back-adkd undo-adkd _;
+      tag-cop = λ m K T n. numbers _;
+      key = λ m K T out. beside meaning-copy copies _;
+      get-maclt-entry = λ i message tag. by-meaning meaning-slot back-slot undo-slot _;
+      get-flx-indices = flx-indices;
+      nt = λ i. numbers _;
+    }

@@ -1,4 +1,5 @@
--- Document 01, "How far each promise reaches": "show that any two answers satisfying it agree". The definition, for every crate; each crate's `Agreed` has a line for each of its public functions.
+-- Document 01, "How far each promise reaches": "show that any two answers satisfying it agree". The definition, for every crate;
+-- each crate's `Agreed` has a line for each of its public functions.
 -- Assumes nothing.
 use Prim.Native.Nat.{ℕ}
 use mathlib.Core.List.{List}

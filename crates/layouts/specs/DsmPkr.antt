@@ -1,4 +1,4 @@
--- DSM-PKR: document 01, "DSM fields"; the field names are the ICD's, section 3.2.2.
+-- DSM-PKR: document 01, "DSM fields". The field names are those of the Rust's comments; ITN, NPK and P_DP are named alike. (The ICD was not at hand.)
 -- Assumes nothing.
 use Prim.Native.Nat.{ℕ, _+_, _-_, _*_}
 use mathlib.Core.List.{List, [], _∷_, _++_}

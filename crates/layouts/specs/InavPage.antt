@@ -1,5 +1,5 @@
--- The I/NAV page of 30 bytes, even part then odd part: document 01, "Page replay". Bits 0, 1, 120, 121 and 138..177 are document 01's; the other rows are the page's plain ones,
--- and a page from the air has them so (docs/DIFFERENCES.md).
+-- The I/NAV page of 30 bytes, even part then odd part: document 01, "Page replay". Bits 0, 1, 120, 121 and 138..177 are document 01's;
+-- the other rows are the page's plain ones, and a page from the air has them so (docs/DIFFERENCES.md).
 -- Assumes nothing.
 use Prim.Native.Nat.{ℕ}
 use mathlib.Core.List.{List, [], _∷_}
@@ -7,7 +7,7 @@ use mathlib.Core.Bool.{Bool, cond, not, _&&_}
 use mathlib.Core.Path.{_≡_}
 use lib.ListN.{length, replicate}
 use lib.Dec.{eqb}
-use Rattle.layouts.specs.Answer.{Answer, nothing, gives, Check, _when_, refusal, answered, Copied}
+use Rattle.layouts.specs.Answer.{nothing, gives, Check, _when_, refusal, answered, Copied}
 use Rattle.layouts.specs.Bits.{bit, bytesFrom, Field, row, the}
 use Rattle.layouts.specs.Meaning.{meaning-page-kind, meaning-copy}
 use Rattle.layouts.specs.declared.inav_page.PageKind.{PageKind}

@@ -1,23 +1,50 @@
 -- What can be said of the tables as a whole.
 -- Assumes nothing.
-use Prim.Native.Nat.{ℕ, _+_, _*_, _<_}
-use mathlib.Core.List.{[], _∷_, map}
+use Prim.Native.Nat.{ℕ, _+_, _*_, _≤_, _<_}
+use mathlib.Core.List.{List, [], _∷_, map}
 use mathlib.Core.Path.{_≡_}
 use lib.Dec.{T}
-use lib.ListN.{getD, drop}
-use Rattle.layouts.specs.Answer.{Refusal, refusals}
-use Rattle.layouts.specs.Bits.{row, gapless}
+use lib.ListN.{length, getD, drop}
+use Rattle.layouts.specs.Answer.{Answer, refused, nothing, gives, Refusal, refusals, refusal}
+use Rattle.layouts.specs.Bits.{row, the, value, gapless}
 use Rattle.layouts.specs.NmaHeader.{nmaHeader}
 use Rattle.layouts.specs.DsmHeader.{dsmHeader}
-use Rattle.layouts.specs.DsmKroot.{krootLayout}
-use Rattle.layouts.specs.DsmPkr.{pkrLayout}
+use Rattle.layouts.specs.InavPage.{inavPage}
+use Rattle.layouts.specs.DsmKroot.{krootLayout, signatureChecks, krootPart, signaturePart, paddingPart}
+use Rattle.layouts.specs.DsmPkr.{pkrLayout, count, paddingChecks, newKeyPart, paddingPart as newPaddingPart}
+use Rattle.layouts.specs.Mack.{sizeChecks, nt, tagLayout, tagInfo, mackLayout}
 
--- each layout covers its bits, every bit once: the headers a byte, KROOT the 13 bytes before its key, PKR the 130 before its
+-- each layout covers its bits, every bit once: the headers a byte, the page its 30 bytes, KROOT the 13 before its key, PKR the 130 before
+-- its, and MACK its 60, whatever sizes it has that are not refused
 pub record Covered : Type 0 where
+  pub page : T (gapless 0 inavPage (8 * 30))
   pub nma : T (gapless 0 nmaHeader 8)
   pub dsm : T (gapless 0 dsmHeader 8)
   pub kroot : T (gapless 0 krootLayout (8 * 13))
   pub pkr : T (gapless 0 pkrLayout (8 * 130))
+  pub mack : (k t : ℕ) → refusal (sizeChecks k t) ≡ 0 → T (gapless 0 (mackLayout k t) (8 * 60))
+
+-- the parts are shown and follow one another without a gap, from one byte to another
+abbrev pub Follow : ℕ → List Answer → ℕ → Type 0
+Follow from [] to = from ≡ to
+Follow from (refused n ∷ parts) to = ⊥
+Follow from (nothing ∷ parts) to = ⊥
+Follow from (gives [] ∷ parts) to = ⊥
+Follow from (gives (first ∷ []) ∷ parts) to = ⊥
+Follow from (gives (first ∷ many ∷ more) ∷ parts) to = (first ≡ from) × Follow (from + many) parts to
+
+-- KROOT, where its checks pass: key, signature and padding cover the bytes from byte 13 to the message's end
+abbrev pub KrootFollows : Type 0
+KrootFollows =
+    (m : List ℕ) → refusal (signatureChecks m) ≡ 0 → Follow 13 (krootPart m ∷ signaturePart m ∷ paddingPart m ∷ []) (length m)
+
+-- PKR, where its checks pass and the blocks counted are there: key and padding cover the bytes from byte 130 to the end of the blocks
+abbrev pub PkrFollows : Type 0
+PkrFollows =
+    (m : List ℕ)
+    → refusal (paddingChecks m) ≡ 0
+    → 13 * count m ≤ length m
+    → Follow 130 (newKeyPart m ∷ newPaddingPart m ∷ []) (13 * count m)
 
 -- the refusal numbers are 1 to 12, in order
 abbrev pub Numbered : Type 0
@@ -30,3 +57,14 @@ NodesLie =
     (n : ℕ)
     → n < 4
     → (getD (drop 2 pkrLayout) n (row "" 0 0) .first ≡ 8 * (1 + 32 * n)) × (getD (drop 2 pkrLayout) n (row "" 0 0) .width ≡ 8 * 32)
+
+-- of sizes that are not refused: a MACK message has 4 to 10 tags
+abbrev pub TagsAtLeastFour : Type 0
+TagsAtLeastFour = (k T : ℕ) → refusal (sizeChecks k T) ≡ 0 → (4 ≤ nt k T) × (nt k T ≤ 10)
+
+-- Tag-Info is PRND x 256 + ADKD x 16 + COP, in any message
+abbrev pub TagInfoIs : Type 0
+TagInfoIs =
+    (m : List ℕ) (T n : ℕ)
+    → value (tagInfo T n) m
+    ≡ value (the "PRND" (tagLayout T n)) m * 256 + value (the "ADKD" (tagLayout T n)) m * 16 + value (the "COP" (tagLayout T n)) m

@@ -15,6 +15,7 @@ pub mod DsmPkr
 pub mod Layouts
 pub mod Maclt
 pub mod MacltPromises
-pub mod Inner
+pub mod inner
 pub mod MacltTable
 pub mod Mack
+pub mod Agreed

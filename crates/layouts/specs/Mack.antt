@@ -1,6 +1,6 @@
--- MACK messages: document 01, "MACK"; the field names are the ICD's, section 3.3. The definitions go by key bytes; a promise converts from bits.
+-- MACK messages: document 01, "MACK". The field names are those of the Rust's comments. The definitions go by key bytes; a promise converts from bits.
 -- Assumes nothing.
-use Prim.Native.Nat.{ℕ, _+_, _-_, _*_, _/_, _%_}
+use Prim.Native.Nat.{ℕ, zero, suc, _+_, _-_, _*_, _/_, _%_}
 use mathlib.Core.List.{List, [], _∷_, _++_, map}
 use mathlib.Core.Bool.{Bool, true, false, cond, not}
 use mathlib.Core.Path.{_≡_}
@@ -118,6 +118,18 @@ keyChecks m k T out = mackChecks m k T ++ (1 when not (eqb (length out) k) ∷ [
 -- "The key starts at bit nt(T+16), which may be half a byte in, .."
 abbrev pub keyStart : ℕ → ℕ → ℕ
 keyStart k T = nt k T * (T + 16)
+
+-- the rows of `many` tags from tag n on
+abbrev pub tagRows : ℕ → ℕ → ℕ → List Field
+tagRows T n zero = []
+tagRows T n (suc many) = tagLayout T n ++ tagRows T (suc n) many
+
+-- The whole message: tag 0, tags 1 to nt-1, the key, and what is left behind it.
+abbrev pub mackLayout : ℕ → ℕ → List Field
+mackLayout k T =
+    headerLayout T
+    ++ tagRows T 1 (nt k T - 1)
+    ++ (row "Key" (keyStart k T) (8 * k) ∷ row "Padding" (keyStart k T + 8 * k) (8 * 60 - (keyStart k T + 8 * k)) ∷ [])
 
 -- ".. and is copied to K/8 lent bytes": the answer, and what the output then has
 unfoldable pub keyCopied : List ℕ → ℕ → ℕ → List ℕ → Copied

@@ -1,4 +1,4 @@
--- The MAC look-up table: document 01, "Look-up table" (Annex C of the ICD).
+-- The MAC look-up table: document 01, "Look-up table", which names Annex C of the ICD for it.
 -- Assumes nothing.
 use Prim.Native.Nat.{ℕ, suc, _-_}
 use mathlib.Core.List.{List, [], _∷_, _++_}

@@ -13,7 +13,16 @@ use Rattle.layouts.specs.declared.answer.Copy.the-variants.{Copied, Refu
 use Rattle.layouts.specs.declared.nma_header.NmaStatus.{NmaStatus}
 use Rattle.layouts.specs.declared.nma_header.NmaStatus.the-variants.{Reserved as StatusReserved, Test, Operational, DontUse}
 use Rattle.layouts.specs.declared.nma_header.ChainAndPubkeyStatus.{ChainAndPubkeyStatus}
-use Rattle.layouts.specs.declared.nma_header.ChainAndPubkeyStatus.the-variants.{Reserved, Nominal, EndOfChain, ChainRevoked, NewPublicKey, PublicKeyRevoked, NewMerkleTree, AlertMessage}
+use Rattle.layouts.specs.declared.nma_header.ChainAndPubkeyStatus.the-variants.{
+  Reserved,
+  Nominal,
+  EndOfChain,
+  ChainRevoked,
+  NewPublicKey,
+  PublicKeyRevoked,
+  NewMerkleTree,
+  AlertMessage,
+}
 use Rattle.layouts.specs.declared.dsm_header.DsmType.{DsmType}
 use Rattle.layouts.specs.declared.dsm_header.DsmType.the-variants.{Kroot, Pkr}
 use Rattle.layouts.specs.declared.dsm_kroot.HashFunction.the-variants.{Sha256, «Sha3_256», Reserved as HashReserved}

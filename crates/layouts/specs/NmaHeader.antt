@@ -1,4 +1,4 @@
--- The NMA header: document 01, "A subframe from its pages"; the field names are the ICD's, section 3.1.
+-- The NMA header: document 01, "A subframe from its pages". The field names are those of the Rust's comments.
 -- Assumes nothing.
 use Prim.Native.Nat.{ℕ}
 use mathlib.Core.List.{List, [], _∷_}

@@ -4,14 +4,14 @@ use crate::answer::Part;
 use crate::numbers::wide;
 ghost use mathlib.Core.Path.{_≡_};
 ghost use Prim.Native.Nat.{_+_, _*_, _^_, _≤_, _<_};
-ghost use mathlib.Core.List.{[]};
+ghost use mathlib.Core.List.{[], _∷_};
 ghost use lib.ListN.{length, getD};
 ghost use Rattle.layouts.specs.Answer.{part as partOf, shown as shownOf};
-ghost use Rattle.layouts.specs.Bits.{field, row, read};
+ghost use Rattle.layouts.specs.Bits.{field, row, value, read};
 ghost use Rattle.layouts.specs.Sizes.{readSize};
 ghost use Rattle.layouts.specs.Meaning.{meaning-number, meaning-part};
 ghost use Rattle.layouts.specs.BitReader.{ReadBits};
-ghost use Rattle.layouts.specs.Inner.{Inside};
+ghost use Rattle.layouts.specs.inner.Code.{Inside};
 
 // A row of a layout: a field's first bit and its width in bits.
 pub struct Field {
@@ -79,20 +79,28 @@ pub(crate) fn byte_at(s: &[u8], first: usize, before: usize) -> u8
     short(s, first, before, 8) as u8
 }
 
+// A field of a byte.
+pub(crate) fn of_byte(byte: u8, at: Field) -> u8
+    requires { ⌜ (at .width < 8) × (at .first + at .width ≤ 8) × (1 ≤ at .width) ⌝ }
+    ensures { λ r. ⌜ r ≡ value (row "" (at .first) (at .width)) (byte ∷ []) ⌝ }
+{
+    (byte >> (8 - at.first - at.width)) & ((1u8 << at.width) - 1)
+}
+
 // A field of a message of any length: 5 where the message ends before it.
-pub(crate) fn number(msg: &[u8], start: usize, width: usize) -> Number
-    requires { ⌜ (1 ≤ width) × (width ≤ 64) ⌝ }
-    ensures { λ r. ⌜ meaning-number r ≡ read (row "" start width) (now (msg .entry)) ⌝ }
+pub(crate) fn number(msg: &[u8], at: Field) -> Number
+    requires { ⌜ (1 ≤ at .width) × (at .width ≤ 64) ⌝ }
+    ensures { λ r. ⌜ meaning-number r ≡ read (row "" (at .first) (at .width)) (now (msg .entry)) ⌝ }
 {
     let len = msg.len();
-    let first = start / 8;
+    let first = at.first / 8;
     if len <= first {
         return Number::Refused(5);
     }
-    if len - first < (start % 8 + width + 7) / 8 {
+    if len - first < (at.first % 8 + at.width + 7) / 8 {
         return Number::Refused(5);
     }
-    Number::Value(long(msg, start, width))
+    Number::Value(long(msg, at.first, at.width))
 }
 
 // The number that the `width` bits from bit `start` on make.
@@ -106,15 +114,22 @@ pub fn read_bits(msg: &[u8], start: usize, width: usize) -> Number
     if 64 < width {
         return Number::Refused(7);
     }
-    number(msg, start, width)
+    number(
+        msg,
+        Field {
+            first: start,
+            width,
+        },
+    )
 }
 
-// The size that the half byte from bit `start` on stands for, by a table of all sixteen, in which 0 is a reserved one.
+// The size that a half byte stands for, by a table of all sixteen, in which 0 is a reserved one.
 // Refuses 5 where the message ends before it, then 6 where it is reserved.
-pub(crate) fn size_at(msg: &[u8], start: usize, sizes: [u16; 16]) -> Number
-    ensures { λ r. ⌜ meaning-number r ≡ readSize (row "" start 4) (λ c. getD sizes c 0) (now (msg .entry)) ⌝ }
+pub(crate) fn size_at(msg: &[u8], at: Field, sizes: [u16; 16]) -> Number
+    requires { ⌜ at .width ≡ 4 ⌝ }
+    ensures { λ r. ⌜ meaning-number r ≡ readSize (row "" (at .first) (at .width)) (λ c. getD sizes c 0) (now (msg .entry)) ⌝ }
 {
-    match number(msg, start, 4) {
+    match number(msg, at) {
         Number::Refused(n) => Number::Refused(n),
         Number::Value(v) => {
             let code = v as usize;

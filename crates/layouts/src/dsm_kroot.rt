@@ -2,6 +2,7 @@
 use crate::answer::Number;
 use crate::answer::Part;
 use crate::bits;
+use crate::bits::Field;
 ghost use mathlib.Core.Path.{_≡_};
 ghost use Prim.Native.Nat.{_≤_};
 ghost use Rattle.layouts.specs.DsmKroot.{
@@ -28,6 +29,56 @@ ghost use Rattle.layouts.specs.DsmKroot.{
   padding-to-block,
   signature-length,
 };
+
+// The rows of the layout that are read.
+pub const NB_DK: Field = Field { first: 0, width: 4 };
+
+pub const PKID: Field = Field { first: 4, width: 4 };
+
+pub const CIDKR: Field = Field { first: 8, width: 2 };
+
+pub const HF: Field = Field {
+    first: 12,
+    width: 2,
+};
+
+pub const MF: Field = Field {
+    first: 14,
+    width: 2,
+};
+
+pub const KS: Field = Field {
+    first: 16,
+    width: 4,
+};
+
+pub const TS: Field = Field {
+    first: 20,
+    width: 4,
+};
+
+pub const MACLT: Field = Field {
+    first: 24,
+    width: 8,
+};
+
+pub const WN_K: Field = Field {
+    first: 36,
+    width: 12,
+};
+
+pub const TOWH_K: Field = Field {
+    first: 48,
+    width: 8,
+};
+
+pub const ALPHA: Field = Field {
+    first: 56,
+    width: 48,
+};
+
+// The byte that the key starts at; the signature follows it, and the padding follows the signature.
+pub const KROOT_BYTE: usize = 13;
 
 pub enum HashFunction {
     Sha256,
@@ -89,28 +140,28 @@ const TAG_SIZES: [u16; 16] = [0, 0, 0, 0, 0, 20, 24, 28, 32, 40, 0, 0, 0, 0, 0, 
 pub fn number_of_blocks(msg: &[u8]) -> Number
     ensures { λ r. ⌜ NumberOfBlocks (now (msg .entry)) r ⌝ }
 {
-    bits::size_at(msg, 0, BLOCKS)
+    bits::size_at(msg, NB_DK, BLOCKS)
 }
 
 // PKID.
 pub fn public_key_id(msg: &[u8]) -> Number
     ensures { λ r. ⌜ PublicKeyId (now (msg .entry)) r ⌝ }
 {
-    bits::number(msg, 4, 4)
+    bits::number(msg, PKID)
 }
 
 // CIDKR.
 pub fn kroot_chain_id(msg: &[u8]) -> Number
     ensures { λ r. ⌜ KrootChainId (now (msg .entry)) r ⌝ }
 {
-    bits::number(msg, 8, 2)
+    bits::number(msg, CIDKR)
 }
 
 // HF, as it stands: 0 to 3.
 pub fn hash_function_number(msg: &[u8]) -> Number
     ensures { λ r. ⌜ HashFunctionNumber (now (msg .entry)) r ⌝ }
 {
-    bits::number(msg, 12, 2)
+    bits::number(msg, HF)
 }
 
 // HF.
@@ -131,7 +182,7 @@ pub fn hash_function(msg: &[u8]) -> HashFunctionAnswer
 pub fn mac_function_number(msg: &[u8]) -> Number
     ensures { λ r. ⌜ MacFunctionNumber (now (msg .entry)) r ⌝ }
 {
-    bits::number(msg, 14, 2)
+    bits::number(msg, MF)
 }
 
 // MF.
@@ -152,42 +203,42 @@ pub fn mac_function(msg: &[u8]) -> MacFunctionAnswer
 pub fn key_size(msg: &[u8]) -> Number
     ensures { λ r. ⌜ KeySize (now (msg .entry)) r ⌝ }
 {
-    bits::size_at(msg, 16, KEY_SIZES)
+    bits::size_at(msg, KS, KEY_SIZES)
 }
 
 // TS, as a size in bits.
 pub fn tag_size(msg: &[u8]) -> Number
     ensures { λ r. ⌜ TagSize (now (msg .entry)) r ⌝ }
 {
-    bits::size_at(msg, 20, TAG_SIZES)
+    bits::size_at(msg, TS, TAG_SIZES)
 }
 
 // MACLT.
 pub fn mac_lookup_table(msg: &[u8]) -> Number
     ensures { λ r. ⌜ MacLookupTable (now (msg .entry)) r ⌝ }
 {
-    bits::number(msg, 24, 8)
+    bits::number(msg, MACLT)
 }
 
 // WN_K.
 pub fn kroot_wn(msg: &[u8]) -> Number
     ensures { λ r. ⌜ KrootWn (now (msg .entry)) r ⌝ }
 {
-    bits::number(msg, 36, 12)
+    bits::number(msg, WN_K)
 }
 
 // TOWH_K, in hours.
 pub fn kroot_towh(msg: &[u8]) -> Number
     ensures { λ r. ⌜ KrootTowh (now (msg .entry)) r ⌝ }
 {
-    bits::number(msg, 48, 8)
+    bits::number(msg, TOWH_K)
 }
 
 // The random pattern alpha.
 pub fn alpha(msg: &[u8]) -> Number
     ensures { λ r. ⌜ Alpha (now (msg .entry)) r ⌝ }
 {
-    bits::number(msg, 56, 48)
+    bits::number(msg, ALPHA)
 }
 
 // KROOT: whether it is shown, and where it lies.
@@ -196,7 +247,7 @@ pub fn kroot_shown(msg: &[u8]) -> Part
 {
     match key_size(msg) {
         Number::Refused(n) => Part::Refused(n),
-        Number::Value(size) => bits::within(msg, 13, (size / 8) as usize),
+        Number::Value(size) => bits::within(msg, KROOT_BYTE, (size / 8) as usize),
     }
 }
 

@@ -2,6 +2,7 @@
 use crate::answer::Number;
 use crate::answer::Part;
 use crate::bits;
+use crate::bits::Field;
 use crate::dsm_kroot::EcdsaFunction;
 ghost use mathlib.Core.Path.{_≡_};
 ghost use Prim.Native.Nat.{_+_, _≤_};
@@ -25,6 +26,30 @@ ghost use Rattle.layouts.specs.DsmPkr.{
   PaddingShown,
   Padding,
 };
+
+// The rows of the layout.
+pub const NB_DP: Field = Field { first: 0, width: 4 };
+
+pub const MID: Field = Field { first: 4, width: 4 };
+
+// Node 0; the three others follow, each behind the one before.
+pub const ITN: Field = Field {
+    first: 8,
+    width: 256,
+};
+
+pub const NPKT: Field = Field {
+    first: 1032,
+    width: 4,
+};
+
+pub const NPKID: Field = Field {
+    first: 1036,
+    width: 4,
+};
+
+// The byte that the key starts at; the padding follows it.
+pub const NPK_BYTE: usize = 130;
 
 pub enum NewPublicKeyType {
     EcdsaKey(EcdsaFunction),
@@ -50,14 +75,14 @@ const BLOCKS: [u16; 16] = [0, 0, 0, 0, 0, 0, 0, 13, 14, 15, 16, 0, 0, 0, 0, 0];
 pub fn number_of_blocks(msg: &[u8]) -> Number
     ensures { λ r. ⌜ NumberOfBlocks (now (msg .entry)) r ⌝ }
 {
-    bits::size_at(msg, 0, BLOCKS)
+    bits::size_at(msg, NB_DP, BLOCKS)
 }
 
 // MID.
 pub fn message_id(msg: &[u8]) -> Number
     ensures { λ r. ⌜ MessageId (now (msg .entry)) r ⌝ }
 {
-    bits::number(msg, 4, 4)
+    bits::number(msg, MID)
 }
 
 // The 32 bytes from byte `first` on.
@@ -84,7 +109,7 @@ pub fn intermediate_tree_node(msg: &[u8], node_number: usize) -> TreeNode
             bytes: [0; 32],
         };
     }
-    let first = 1 + 32 * node_number;
+    let first = ITN.first / 8 + ITN.width / 8 * node_number;
     if msg.len() < first + 32 {
         return TreeNode {
             answer: Part::Refused(5),
@@ -101,7 +126,7 @@ pub fn intermediate_tree_node(msg: &[u8], node_number: usize) -> TreeNode
 pub fn new_public_key_type_number(msg: &[u8]) -> Number
     ensures { λ r. ⌜ NewPublicKeyTypeNumber (now (msg .entry)) r ⌝ }
 {
-    bits::number(msg, 1032, 4)
+    bits::number(msg, NPKT)
 }
 
 // NPKT.
@@ -127,7 +152,7 @@ pub fn new_public_key_type(msg: &[u8]) -> NewPublicKeyTypeAnswer
 pub fn new_public_key_id(msg: &[u8]) -> Number
     ensures { λ r. ⌜ NewPublicKeyId (now (msg .entry)) r ⌝ }
 {
-    bits::number(msg, 1036, 4)
+    bits::number(msg, NPKID)
 }
 
 // The number of blocks; 0 where it is reserved.
@@ -181,7 +206,7 @@ pub fn new_public_key_shown(msg: &[u8]) -> Part
 {
     match key_size(msg) {
         Number::Refused(n) => Part::Refused(n),
-        Number::Value(size) => bits::within(msg, 130, size as usize),
+        Number::Value(size) => bits::within(msg, NPK_BYTE, size as usize),
     }
 }
 
@@ -198,7 +223,7 @@ pub fn merkle_tree_leaf_shown(msg: &[u8]) -> Part
 {
     match key_size(msg) {
         Number::Refused(n) => Part::Refused(n),
-        Number::Value(size) => bits::within(msg, 129, 1 + size as usize),
+        Number::Value(size) => bits::within(msg, NPKT.first / 8, 1 + size as usize),
     }
 }
 
@@ -220,7 +245,7 @@ pub fn padding_shown(msg: &[u8]) -> Part
             if n == 0 {
                 return Part::Refused(6);
             }
-            let start = 130 + size;
+            let start = NPK_BYTE as u64 + size;
             let end = 13 * n;
             if end < start {
                 return Part::Refused(11);

@@ -3,6 +3,7 @@
 use crate::answer::Copy;
 use crate::answer::Number;
 use crate::bits;
+use crate::bits::Field;
 use crate::tag_info::Adkd;
 use crate::tag_info::AdkdAnswer;
 use crate::tag_info::Prnd;
@@ -15,6 +16,7 @@ ghost use Rattle.layouts.specs.Answer.{refusal as refusalOf, answered, g
 ghost use Rattle.layouts.specs.Bits.{field, bytesFrom};
 ghost use Rattle.layouts.specs.Sizes.{keySizes, tagSizes};
 ghost use Rattle.layouts.specs.Meaning.{meaning-number};
+ghost use Rattle.layouts.specs.inner.Code.{Room, tagEnd};
 ghost use Rattle.layouts.specs.Mack.{
   listed,
   sizesOf,
@@ -35,6 +37,29 @@ ghost use Rattle.layouts.specs.Mack.{
   TagCop,
   Key,
 };
+
+// The rows of the header and of a tag, from the end of tag 0 or of the tag on; those of a tag together are its info.
+pub const MACSEQ: Field = Field {
+    first: 0,
+    width: 12,
+};
+
+pub const PRND: Field = Field { first: 0, width: 8 };
+
+pub const ADKD: Field = Field { first: 8, width: 4 };
+
+pub const COP: Field = Field {
+    first: 12,
+    width: 4,
+};
+
+pub const TAG_INFO: Field = Field {
+    first: 0,
+    width: 16,
+};
+
+// The bits of a message.
+pub const BITS: usize = 480;
 
 fn key_listed(key_size: usize) -> bool
     ensures { λ r. ⌜ r ≡ listed «key_size» (sizesOf keySizes) ⌝ }
@@ -97,7 +122,7 @@ fn tags(key_size: usize, tag_size: usize) -> usize
     requires { ⌜ («key_size» ≤ 256) × («tag_size» ≤ 40) ⌝ }
     ensures { λ r. ⌜ r ≡ (480 - «key_size») / («tag_size» + 16) ⌝ }
 {
-    (480 - key_size) / (tag_size + 16)
+    (BITS - key_size) / (tag_size + TAG_INFO.width)
 }
 
 // nt: the tags are 0 to nt-1.
@@ -113,24 +138,28 @@ pub fn num_tags(key_size: usize, tag_size: usize) -> Number
 
 // The bits of tag `n`, unless refused.
 fn tag_at(msg: &[u8], refusal: u8, n: usize, tag_size: usize) -> Number
-    requires { ⌜ (refusal ≡ 0 → (length (now msg) ≡ 60) × (n * («tag_size» + 16) + «tag_size» + 16 ≤ 480) × («tag_size» ≤ 40)) ⌝ }
+    requires { ⌜ (refusal ≡ 0 → Room (now msg) «tag_size» n) ⌝ }
     ensures { λ r. ⌜ meaning-number r ≡ answered refusal (gives (field (now (msg .entry)) (n * («tag_size» + 16)) «tag_size» ∷ [])) ⌝ }
 {
     if refusal != 0 {
         return Number::Refused(refusal);
     }
-    Number::Value(bits::long(msg, n * (tag_size + 16), tag_size))
+    Number::Value(bits::long(msg, n * (tag_size + TAG_INFO.width), tag_size))
 }
 
-// The `width` bits that stand `after` bits behind tag `n`, unless refused.
-fn info_at(msg: &[u8], refusal: u8, n: usize, tag_size: usize, after: usize, width: usize) -> Number
-    requires { ⌜ (after + width ≤ 16) × (refusal ≡ 0 → (length (now msg) ≡ 60) × (n * («tag_size» + 16) + «tag_size» + 16 ≤ 480) × («tag_size» ≤ 40)) ⌝ }
-    ensures { λ r. ⌜ meaning-number r ≡ answered refusal (gives (field (now (msg .entry)) (n * («tag_size» + 16) + «tag_size» + after) width ∷ [])) ⌝ }
+// The field `at` behind tag `n`, unless refused.
+fn info_at(msg: &[u8], refusal: u8, n: usize, tag_size: usize, at: Field) -> Number
+    requires { ⌜ (at .first + at .width ≤ 16) × (refusal ≡ 0 → Room (now msg) «tag_size» n) ⌝ }
+    ensures { λ r. ⌜ meaning-number r ≡ answered refusal (gives (field (now (msg .entry)) (tagEnd «tag_size» n + at .first) (at .width) ∷ [])) ⌝ }
 {
     if refusal != 0 {
         return Number::Refused(refusal);
     }
-    Number::Value(bits::long(msg, n * (tag_size + 16) + tag_size + after, width))
+    Number::Value(bits::long(
+        msg,
+        n * (tag_size + TAG_INFO.width) + tag_size + at.first,
+        at.width,
+    ))
 }
 
 // Tag 0.
@@ -144,14 +173,14 @@ pub fn tag0(msg: &[u8], key_size: usize, tag_size: usize) -> Number
 pub fn macseq(msg: &[u8], key_size: usize, tag_size: usize) -> Number
     ensures { λ r. ⌜ Macseq (now (msg .entry)) «key_size» «tag_size» r ⌝ }
 {
-    info_at(msg, refuses(msg, key_size, tag_size), 0, tag_size, 0, 12)
+    info_at(msg, refuses(msg, key_size, tag_size), 0, tag_size, MACSEQ)
 }
 
 // COP of tag 0.
 pub fn cop(msg: &[u8], key_size: usize, tag_size: usize) -> Number
     ensures { λ r. ⌜ Cop (now (msg .entry)) «key_size» «tag_size» r ⌝ }
 {
-    info_at(msg, refuses(msg, key_size, tag_size), 0, tag_size, 12, 4)
+    info_at(msg, refuses(msg, key_size, tag_size), 0, tag_size, COP)
 }
 
 // Tag n, 1 to nt-1.
@@ -170,8 +199,7 @@ pub fn tag_info(msg: &[u8], key_size: usize, tag_size: usize, n: usize) -> Numbe
         refuses_tag(msg, key_size, tag_size, n),
         n,
         tag_size,
-        0,
-        16,
+        TAG_INFO,
     )
 }
 
@@ -184,8 +212,7 @@ pub fn prnd_number(msg: &[u8], key_size: usize, tag_size: usize, n: usize) -> Nu
         refuses_tag(msg, key_size, tag_size, n),
         n,
         tag_size,
-        0,
-        8,
+        PRND,
     )
 }
 
@@ -219,8 +246,7 @@ pub fn adkd_number(msg: &[u8], key_size: usize, tag_size: usize, n: usize) -> Nu
         refuses_tag(msg, key_size, tag_size, n),
         n,
         tag_size,
-        8,
-        4,
+        ADKD,
     )
 }
 
@@ -248,8 +274,7 @@ pub fn tag_cop(msg: &[u8], key_size: usize, tag_size: usize, n: usize) -> Number
         refuses_tag(msg, key_size, tag_size, n),
         n,
         tag_size,
-        12,
-        4,
+        COP,
     )
 }
 
@@ -278,6 +303,10 @@ pub fn key(msg: &[u8], key_size: usize, tag_size: usize, out: &mut [u8]) -> Copy
     if out.len() != key_size / 8 {
         return Copy::Refused(1);
     }
-    copy_bits(msg, tags(key_size, tag_size) * (tag_size + 16), out);
+    copy_bits(
+        msg,
+        tags(key_size, tag_size) * (tag_size + TAG_INFO.width),
+        out,
+    );
     Copy::Copied
 }

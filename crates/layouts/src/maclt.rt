@@ -7,7 +7,7 @@ ghost use lib.ListN.{getD};
 ghost use Rattle.layouts.specs.Meaning.{slot-numbers};
 ghost use Rattle.layouts.specs.Maclt.{table, rowOf, flex, numbers};
 ghost use Rattle.layouts.specs.MacltPromises.{MacltEntryRead, FlxIndicesRead, NtRead};
-ghost use Rattle.layouts.specs.Inner.{rowNumber, flxNumber, codedSlots, oneIfSome};
+ghost use Rattle.layouts.specs.inner.Code.{rowNumber, flxNumber, codedSlots, oneIfSome};
 
 // S and E of the table.
 pub enum AuthObject {

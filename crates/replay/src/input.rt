@@ -4,8 +4,8 @@ use crate::held::Held;
 use crate::pages;
 use crate::pages::Running;
 use crate::print;
-use collectors::replay::PageReplay;
 use libc::STDIN_FILENO;
+use page_replay::replay::PageReplay;
 
 // A replay between two pieces: the pages so far, and the bytes of the next one.
 struct Between {

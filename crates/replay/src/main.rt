@@ -1,4 +1,4 @@
-// Replays pages: `replay SATELLITE WEEK TIME < PAGES`. All that matters is in `collectors` and `texts`; here are arguments, reading and writing.
+// Replays pages: `replay SATELLITE WEEK TIME < PAGES`. All that matters is in `page_replay` and `texts`; here are arguments, reading and writing.
 mod asked;
 mod held;
 mod input;
@@ -6,8 +6,8 @@ mod pages;
 mod print;
 
 use asked::Asked;
-use collectors::replay;
-use collectors::replay::Begun;
+use page_replay::replay;
+use page_replay::replay::Begun;
 use texts::arguments::Arguments;
 
 fn run(satellite: u8, week: u16, time: u32) {

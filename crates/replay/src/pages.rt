@@ -1,9 +1,9 @@
 // Pages that are in memory.
 use crate::print;
-use collectors::replay;
-use collectors::replay::PageReplay;
-use collectors::replay::ReplayAnswer;
-use collectors::replay::Replayed;
+use page_replay::replay;
+use page_replay::replay::PageReplay;
+use page_replay::replay::ReplayAnswer;
+use page_replay::replay::Replayed;
 ghost use mathlib.Core.Path.{_≡_};
 ghost use Prim.Native.Nat.{min};
 

@@ -1,9 +1,9 @@
 // What the program writes. Each function answers whether all of it was written, and says so on standard error where it was not.
-use collectors::replay::DsmDone;
-use collectors::replay::PageReplay;
-use collectors::replay::SubframeDone;
 use libc::STDERR_FILENO;
 use libc::STDOUT_FILENO;
+use page_replay::replay::DsmDone;
+use page_replay::replay::PageReplay;
+use page_replay::replay::SubframeDone;
 use texts::lines;
 
 fn line(bytes: &[u8]) -> bool {
@@ -15,7 +15,7 @@ fn line(bytes: &[u8]) -> bool {
 }
 
 pub fn refused(n: u8) -> bool {
-    let mut out = [0u8; 160];
+    let mut out = [0u8; 256];
     let many = lines::refused(&mut out, n);
     line(&out[..many])
 }
@@ -24,7 +24,7 @@ pub fn subframe(satellite: u8, done: SubframeDone) -> bool {
     match done {
         SubframeDone::None => true,
         SubframeDone::Subframe { week, time } => {
-            let mut out = [0u8; 160];
+            let mut out = [0u8; 256];
             let many = lines::subframe(&mut out, satellite, week, time);
             line(&out[..many])
         }
@@ -35,7 +35,7 @@ pub fn dsm(done: DsmDone) -> bool {
     match done {
         DsmDone::None => true,
         DsmDone::Dsm { id, bytes } => {
-            let mut out = [0u8; 160];
+            let mut out = [0u8; 256];
             let many = lines::dsm(&mut out, id, bytes);
             line(&out[..many])
         }
@@ -43,7 +43,7 @@ pub fn dsm(done: DsmDone) -> bool {
 }
 
 pub fn totals(record: PageReplay, tail: usize) -> bool {
-    let mut out = [0u8; 160];
+    let mut out = [0u8; 256];
     let many = lines::totals(
         &mut out,
         record.pages,

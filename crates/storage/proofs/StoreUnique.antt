@@ -3,8 +3,10 @@
 use mathlib.Core.Path.{_≡_, refl, sym, ap, _∙_}
 use mathlib.Core.List.{List, [], _∷_}
 use Prim.Native.Nat.{ℕ}
+use Rattle.layouts.specs.Agree.{Agree, AgreeWith}
 use Rattle.layouts.specs.Answer.{Answer, refused, nothing, gives}
 use Rattle.storage.specs.Store.{Storage, Asked, Call, Outcome}
+use Rattle.storage.specs.Agreed.{Agreed}
 use Rattle.storage.specs.StorePromises.{outcome, meaning-store, meaning-found, NewStorage, StoreMack, GetMack}
 use Rattle.storage.specs.declared.mack_storage.MackStorage.{MackStorage}
 use Rattle.storage.specs.declared.mack_storage.StoreAnswer.{StoreAnswer}
@@ -37,15 +39,24 @@ undo-found (NotFound n) = refl
 
 -- the code's record is the definition's
 abbrev back-storage : Storage → MackStorage
-back-storage o = record { current = o .current; timed = o .timed; weeks = o .weeks; tows = o .tows; counts = o .counts; satellites = o .satellites; statuses = o .statuses }
+back-storage o =
+    record {
+      current = o .current;
+      timed = o .timed;
+      weeks = o .weeks;
+      tows = o .tows;
+      counts = o .counts;
+      satellites = o .satellites;
+      statuses = o .statuses;
+    }
 
-pub new-storage : (r s : MackStorage) → NewStorage r → NewStorage s → r ≡ s
+new-storage : Agree NewStorage
 new-storage r s p q = ap back-storage (p ∙ sym q)
 
 abbrev back-stored : Outcome → MackStored
 back-stored f = record { storage = back-storage (f .state .storage); answer = back-store (f .answer) }
 
-pub store-mack : (o : MackStorage) (m : List ℕ) (c : Call) (r s : MackStored) (x y : List ℕ) → StoreMack o m c r x → StoreMack o m c s y → (r ≡ s) × (x ≡ y)
+store-mack : (o : MackStorage) (m : List ℕ) (c : Call) → AgreeWith (StoreMack o m c)
 store-mack o m c r s x y p q =
     let e : outcome r x ≡ outcome s y = p ∙ sym q in
     (whole r ∙ ap back-stored e ∙ sym (whole s), ap (λ (f : Outcome). f .state .memory) e)
@@ -53,5 +64,8 @@ store-mack o m c r s x y p q =
     whole : (f : MackStored) → _≡_ {A = MackStored} f (record { storage = f .storage; answer = back-store (meaning-store (f .answer)) })
     whole f = rw (undo-store (f .answer))
 
-pub get-mack : (o : MackStorage) (a : Asked) (r s : MackFound) → GetMack o a r → GetMack o a s → r ≡ s
+get-mack : (o : MackStorage) (a : Asked) → Agree (GetMack o a)
 get-mack o a r s p q = sym (undo-found r) ∙ ap back-found (p ∙ sym q) ∙ undo-found s
+
+pub agreed : Agreed
+agreed = record { new = new-storage; store = store-mack; get = get-mack }

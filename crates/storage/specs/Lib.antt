@@ -1,4 +1,5 @@
+pub mod Agreed
 pub mod Store
-pub mod StoreInner
 pub mod StoreKeeps
 pub mod StorePromises
+pub mod inner

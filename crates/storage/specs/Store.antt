@@ -1,10 +1,13 @@
--- The MACK store: document 01, "MACK store". Everything is said over two numbers: how many messages a place has room for, and how many times (places) there are. Document 01 has 36 and 12.
+-- The MACK store: document 01, "MACK store". Everything is said over two numbers: how many messages a place has room for, and how many times (places) there
+-- are. Document 01 has 36 and 12.
 -- Assumes nothing.
 use Prim.Native.Nat.{ℕ, zero, suc, _+_, _*_}
 use mathlib.Core.List.{List, [], _∷_, _++_}
 use mathlib.Core.Bool.{Bool, true, false, cond, not, _&&_}
-use lib.ListN.{length, getD, set, take, drop, replicate}
+use lib.ListN.{length, getD, set, replicate}
 use lib.Dec.{leb, ltb, eqb}
+use Rattle.layouts.specs.Gst.{svnGstChecks}
+use Rattle.layouts.specs.Lists.{put, all}
 use Rattle.layouts.specs.Answer.{Answer, refused, nothing, gives, Check, _when_, refusal, answered}
 
 -- "The record holds the current place 0..11; for each place a time and a count 0..36, or none and 0; for each message held a satellite and an NMA status 0..3"
@@ -40,11 +43,6 @@ newStorage messages times =
 -- "Message j of place p is the 60 bytes from 60(36p + j)."
 abbrev pub entry : ℕ → ℕ → ℕ → ℕ
 entry messages p j = messages * p + j
-
--- the test holds of every number below n
-unfoldable pub all : (ℕ → Bool) → ℕ → Bool
-all test zero = true
-all test (suc n) = all test n && test n
 
 -- the first of the n numbers from i on for which the test holds; i + n where there is none
 unfoldable pub first : (ℕ → Bool) → ℕ → ℕ → ℕ
@@ -90,13 +88,9 @@ pub record Call : Type 0 where
   pub asked : Asked
   pub status : ℕ
 
--- What is refused of a satellite and a time, ..
-abbrev pub timeChecks : Asked → List Check
-timeChecks a = 2 when ltb (a .satellite) 1 ∷ 2 when ltb 36 (a .satellite) ∷ 3 when ltb 4095 (a .week) ∷ 4 when ltb 604799 (a .time) ∷ []
-
--- .. after the record: 12, 2, 3, 4
+-- What is refused of the record, and of a satellite and a time: 12, 2, 3, 4
 abbrev pub askChecks : ℕ → ℕ → Storage → Asked → List Check
-askChecks messages times o a = 12 when not (legal messages times o) ∷ timeChecks a
+askChecks messages times o a = 12 when not (legal messages times o) ∷ svnGstChecks (a .satellite) (a .week) (a .time)
 
 -- "a message is stored at the current place's time and that place has 36"
 abbrev pub full : ℕ → Storage → ℕ → ℕ → Bool
@@ -113,7 +107,9 @@ entryChecks messages times o a status = askChecks messages times o a ++ statusCh
 -- .. after the lent bytes and the message: 1
 abbrev pub storeChecks : ℕ → ℕ → State → Call → List Check
 storeChecks messages times s c =
-    1 when not (eqb (length (s .memory)) (60 * (messages * times))) ∷ 1 when not (eqb (length (c .message)) 60) ∷ entryChecks messages times (s .storage) (c .asked) (c .status)
+    1 when not (eqb (length (s .memory)) (60 * (messages * times)))
+    ∷ 1 when not (eqb (length (c .message)) 60)
+    ∷ entryChecks messages times (s .storage) (c .asked) (c .status)
 
 -- "12 places in a ring": the place after p
 unfoldable pub nextPlace : ℕ → ℕ → ℕ
@@ -143,10 +139,6 @@ entered messages o p j a status =
       statuses = set (o .statuses) (entry messages p j) status;
     }
 
--- message i, of 60 bytes, in its place
-abbrev pub put : List ℕ → ℕ → List ℕ → List ℕ
-put memory i message = take (60 * i) memory ++ message ++ drop (60 * i + 60) memory
-
 abbrev pub placeOf : ℕ → State → Call → ℕ
 placeOf times s c = placeFor times (s .storage) (c .asked .week) (c .asked .time)
 
@@ -157,7 +149,7 @@ unfoldable pub stored : ℕ → ℕ → State → Call → State
 stored messages times s c =
     record {
       storage = entered messages (s .storage) (placeOf times s c) (numberOf s c) (c .asked) (c .status);
-      memory = put (s .memory) (entry messages (placeOf times s c) (numberOf s c)) (c .message);
+      memory = put (s .memory) (60 * entry messages (placeOf times s c) (numberOf s c)) 60 (c .message);
     }
 
 -- the state after a call, and the answer: stored or refused
@@ -174,7 +166,8 @@ store messages times s c =
 unfoldable pub reached : ℕ → Storage → ℕ → ℕ → ℕ
 reached times o week time = first (hasTime o week time) times 0
 
--- "where its first message of that satellite lies, as the number of its first byte, with its status": of the messages from number `at` on, as many as the count says
+-- "where its first message of that satellite lies, as the number of its first byte, with its status": of the messages from number `at` on, as many as the
+-- count says
 unfoldable pub firstOf : List ℕ → ℕ → ℕ → ℕ → ℕ
 firstOf satellites at count satellite = first (λ j. eqb (getD satellites (at + j) 0) satellite) count 0
 

@@ -12,7 +12,7 @@ use lib.Dec.{leb, eqb}
 use lib.Bits.{bitAnd, and-block, and-high}
 use borrow.Author.Tests.{leb-true, leb-false, eq-eqb, ne-eqb, not-true, not-false}
 use Rattle.subframes.specs.Subframe.{small}
-use Rattle.subframes.specs.SubframeInner.{packed, Joined, eightOf}
+use Rattle.subframes.specs.inner.Subframe.{packed, Joined, eightOf}
 
 -- the high half of each byte
 unfoldable mask : List ℕ → ℕ
@@ -50,7 +50,9 @@ pub four-clear : {a b c d r : ℕ} → Joined a b c d r → eqb (bitAnd r 404232
 unfolding mask Bytes
 four-clear {a} {b} {c} {d} j = rw (j .number) (clear (a ∷ b ∷ c ∷ d ∷ []) (j .a-byte, (j .b-byte, (j .c-byte, (j .d-byte, tt)))))
 
-pub eight-clear : {a b c d e f g h x y : ℕ} → Joined a b c d x → Joined e f g h y → eqb (bitAnd (y * 4294967296 + x) 17361641481138401520) 0 ≡ small (a ∷ b ∷ c ∷ d ∷ e ∷ f ∷ g ∷ h ∷ [])
+pub eight-clear :
+    {a b c d e f g h x y : ℕ} → Joined a b c d x → Joined e f g h y
+    → eqb (bitAnd (y * 4294967296 + x) 17361641481138401520) 0 ≡ small (a ∷ b ∷ c ∷ d ∷ e ∷ f ∷ g ∷ h ∷ [])
 unfolding packed mask Bytes
 eight-clear {a} {b} {c} {d} {e} {f} {g} {h} {x} {y} j k =
     let n : y * 4294967296 + x ≡ packed (a ∷ b ∷ c ∷ d ∷ e ∷ f ∷ g ∷ h ∷ []) = omega (arith, j .number, k .number) in
@@ -88,7 +90,9 @@ front-8 l i h =
 -- The check's ways: before each turn what is left is small exactly if all is.
 module _ (l : List ℕ) {x : ℕ} (h : 4 ≤ length l) (j : Joined (getD l 0 0) (getD l 1 0) (getD l 2 0) (getD l 3 0) x) where
   first : small l ≡ (eqb (bitAnd x 4042322160) 0 && small (drop 4 l))
-  first = ap small (front-4 l h) ∙ both-small (getD l 0 0 ∷ getD l 1 0 ∷ getD l 2 0 ∷ getD l 3 0 ∷ []) (drop 4 l) ∙ ap (λ (b : Bool). b && small (drop 4 l)) (sym (four-clear j))
+  first =
+      ap small (front-4 l h) ∙ both-small (getD l 0 0 ∷ getD l 1 0 ∷ getD l 2 0 ∷ getD l 3 0 ∷ []) (drop 4 l)
+      ∙ ap (λ (b : Bool). b && small (drop 4 l)) (sym (four-clear j))
 
   pub first-stop : (bitAnd x 4042322160 ≡ 0 → ⊥) → false ≡ small l
   first-stop ne = sym (first ∙ ap (λ (b : Bool). b && small (drop 4 l)) (ne-eqb (bitAnd x 4042322160) 0 ne))

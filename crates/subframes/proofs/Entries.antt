@@ -6,55 +6,36 @@ use mathlib.Core.Path.{_≡_, refl, sym, ap, _∙_, subst}
 use mathlib.Core.List.{List, [], _∷_}
 use mathlib.Core.Bool.{true, false}
 use lib.ListN.{length, getD, take, drop, length-take, length-drop}
-use borrow.Author.Tests.{le-ltb, lt-ltb, eq-eqb, ne-eqb}
+use borrow.Author.Tests.{eq-eqb, ne-eqb}
 use Rattle.layouts.specs.Answer.{Answer, refused, nothing, gives, refusal}
+use Rattle.layouts.specs.Gst.{svnGstChecks}
 use Rattle.layouts.proofs.Answers.{none-fails}
-use Rattle.subframes.specs.Subframe.{State, Page, Fed, recordChecks, viewChecks, feedChecks, feed}
+use Rattle.subframes.specs.Subframe.{State, Page, Fed, recordChecks, feedChecks, feed}
 use Rattle.subframes.specs.Trace.{entryAt, entriesFrom, entries, FedMany, feedEach, traceChecks, feedAll}
-use Rattle.subframes.specs.PageInner.{pageOf, stateOf, answerOf, PageFed}
-use Rattle.subframes.specs.TraceInner.{entryChecks, completesOf, endsWith}
+use Rattle.subframes.specs.inner.Page.{pageOf, stateOf, answerOf, PageFed}
+use Rattle.subframes.specs.inner.Trace.{completesOf, endsWith}
 use Rattle.subframes.specs.declared.page.Entry.{Entry}
 use Rattle.subframes.specs.declared.page.PageTaken.{PageTaken}
 use Rattle.subframes.specs.declared.page.PageTaken.the-variants.{Unused, Used, Completes}
 use Rattle.subframes.proofs.Pages.{fine, feed-refused}
 use Rattle.subframes.proofs.SubframeSound.{Sound, sound, sound-passes, sound-fed}
 
--- The refusals of an entry.
-module _ (n w t : ℕ) where
-  pub no-satellite : n < 1 → 2 ≡ refusal (entryChecks n w t)
-  unfolding refusal
-  no-satellite h = rw (lt-ltb n 1 h)
-
-  pub high-satellite : 1 ≤ n → 36 < n → 2 ≡ refusal (entryChecks n w t)
-  unfolding refusal
-  high-satellite h0 h = rw (le-ltb n 1 h0, lt-ltb 36 n h)
-
-  pub high-week : 1 ≤ n → n ≤ 36 → 4095 < w → 3 ≡ refusal (entryChecks n w t)
-  unfolding refusal
-  high-week h0 h1 h = rw (le-ltb n 1 h0, le-ltb 36 n h1, lt-ltb 4095 w h)
-
-  pub high-time : 1 ≤ n → n ≤ 36 → w ≤ 4095 → 604799 < t → 4 ≡ refusal (entryChecks n w t)
-  unfolding refusal
-  high-time h0 h1 h2 h = rw (le-ltb n 1 h0, le-ltb 36 n h1, le-ltb 4095 w h2, lt-ltb 604799 t h)
-
-  pub right-entry : 1 ≤ n → n ≤ 36 → w ≤ 4095 → t ≤ 604799 → 0 ≡ refusal (entryChecks n w t)
-  unfolding refusal
-  right-entry h0 h1 h2 h3 = rw (le-ltb n 1 h0, le-ltb 36 n h1, le-ltb 4095 w h2, le-ltb 604799 t h3)
-
--- and of a trace
+-- The refusals of a trace.
 module _ (s : State) (trace : List ℕ) where
   pub not-whole : (length trace % 12 ≡ 0 → ⊥) → 1 ≡ refusal (traceChecks s trace)
   unfolding refusal
   not-whole ne = rw (ne-eqb (length trace % 12) 0 ne)
 
-  pub whole : {q : ℕ} → length trace % 12 ≡ 0 → q ≡ refusal (viewChecks s 1) → q ≡ refusal (traceChecks s trace)
+  pub whole : {q : ℕ} → length trace % 12 ≡ 0 → q ≡ refusal (recordChecks s) → q ≡ refusal (traceChecks s trace)
   unfolding refusal
   whole e h = rw (eq-eqb (length trace % 12) 0 e) h
 
 -- of a record that is not refused only the entry can be
-pub entry-refusal : (s : State) (p : Page) {q : ℕ} → Sound s → length (p .bytes) ≡ 5 → q ≡ refusal (entryChecks (p .satellite) (p .week) (p .time)) → q ≡ refusal (feedChecks s p)
+pub entry-refusal :
+    (s : State) (p : Page) {q : ℕ} → Sound s → length (p .bytes) ≡ 5 → q ≡ refusal (svnGstChecks (p .satellite) (p .week) (p .time))
+    → q ≡ refusal (feedChecks s p)
 unfolding refusal
-entry-refusal s p d l e = rw (eq-eqb (length (p .bytes)) 5 l) (e ∙ sym (sound-passes s d (entryChecks (p .satellite) (p .week) (p .time))))
+entry-refusal s p d l e = rw (eq-eqb (length (p .bytes)) 5 l) (e ∙ sym (sound-passes s d (svnGstChecks (p .satellite) (p .week) (p .time))))
 
 -- What is answered where a trace ends before an entry.
 module _ (n q : ℕ) where
@@ -73,7 +54,9 @@ entry-is trace k e f = rw (e, f)
 
 -- Entries one by one.
 module _ (n : ℕ) (s : State) (p : Page) (ps : List Page) where
-  each-ends : {q : ℕ} → q ≡ refusal (feedChecks s p) → (q ≡ 0 → ⊥) → _≡_ {A = FedMany} (record { state = s; answer = endsWith n q; consumed = n }) (feedEach n s (p ∷ ps))
+  each-ends :
+      {q : ℕ} → q ≡ refusal (feedChecks s p) → (q ≡ 0 → ⊥)
+      → _≡_ {A = FedMany} (record { state = s; answer = endsWith n q; consumed = n }) (feedEach n s (p ∷ ps))
   unfolding feedEach
   each-ends e ne = rw (← feed-refused s p e ne)
 
@@ -81,7 +64,9 @@ module _ (n : ℕ) (s : State) (p : Page) (ps : List Page) where
   unfolding feedEach
   each-goes-on e a = let b : feed s p .answer ≡ nothing = sym (ap (λ (x : Fed). x .answer) e) ∙ a in rw (b, ap (λ (x : Fed). x .state) e)
 
-  each-completes : {f : Fed} {l : List ℕ} → f ≡ feed s p → f .answer ≡ gives l → _≡_ {A = FedMany} (record { state = f .state; answer = gives l; consumed = n + 1 }) (feedEach n s (p ∷ ps))
+  each-completes :
+      {f : Fed} {l : List ℕ} → f ≡ feed s p → f .answer ≡ gives l
+      → _≡_ {A = FedMany} (record { state = f .state; answer = gives l; consumed = n + 1 }) (feedEach n s (p ∷ ps))
   unfolding feedEach
   each-completes {f} {l} e a = let b : feed s p .answer ≡ gives l = sym (ap (λ (x : Fed). x .answer) e) ∙ a in rw (b, ap (λ (x : Fed). x .state) e)
 
@@ -101,7 +86,8 @@ pub record Left (s₀ : State) (trace : List ℕ) (k : ℕ) (s : State) : Type 0
   pub rest : feedEach k s (entriesFrom trace k (length trace / 12 - k)) ≡ feedEach 0 s₀ (entries trace)
 
 pub turn-first : (s : State) (trace : List ℕ) → refusal (recordChecks s) ≡ 0 → Left s trace 0 s
-turn-first s trace z = let e : length trace / 12 - 0 ≡ length trace / 12 = omega arith in record { few = omega arith; first = sound s z; fine = sound s z; rest = rw e }
+turn-first s trace z =
+    let e : length trace / 12 - 0 ≡ length trace / 12 = omega arith in record { few = omega arith; first = sound s z; fine = sound s z; rest = rw e }
 
 -- the page of entry k, as the code cuts it out
 abbrev pagePart : List ℕ → ℕ → List ℕ
@@ -113,63 +99,100 @@ page-part trace k = let e : 12 * k + 12 - (12 * k + 7) ≡ 5 = omega arith in rw
 page-5 : (trace : List ℕ) (k : ℕ) → k < length trace / 12 → length (pagePart trace k) ≡ 5
 page-5 trace k h = simp (length-take, length-drop) (omega arith)
 
-module _ {s₀ s : State} {trace : List ℕ} {k : ℕ} (d : Left s₀ trace k s) where
-  pub turn-none : {x : FedMany} → length trace / 12 ≤ k → x ≡ record { state = s; answer = nothing; consumed = k } → x ≡ feedEach 0 s₀ (entries trace)
-  unfolding feedEach
-  turn-none h ex = ex ∙ rw (entries-none trace k (length trace / 12) h) at (d .rest)
+pub turn-none : {s₀ s : State} {trace : List ℕ} {k : ℕ} → Left s₀ trace k s → {x : FedMany} → length trace / 12 ≤ k
+    → x ≡ record { state = s; answer = nothing; consumed = k } → x ≡ feedEach 0 s₀ (entries trace)
+unfolding feedEach
+turn-none {trace = trace} {k = k} d h ex = ex ∙ rw (entries-none trace k (length trace / 12) h) at (d .rest)
 
-  module _ (e : Entry) (h : k < length trace / 12) (pe : pageOf e (take 5 (drop (12 * k + 7) trace)) ≡ entryAt trace k) {q : ℕ} (eq : q ≡ refusal (entryChecks (e .satellite) (e .week) (e .time))) where
-    later : List Page
-    later = entriesFrom trace (k + 1) (length trace / 12 - (k + 1))
+-- A turn: entry k is e, and q is its refusal number.
+pub record Turn : Type 0 where
+  pub s₀ : State
+  pub s : State
+  pub trace : List ℕ
+  pub k : ℕ
+  pub e : Entry
+  pub q : ℕ
+  pub left : Left s₀ trace k s
+  pub inside : k < length trace / 12
+  pub entry-is : pageOf e (take 5 (drop (12 * k + 7) trace)) ≡ entryAt trace k
+  pub number-is : q ≡ refusal (svnGstChecks (e .satellite) (e .week) (e .time))
 
-    the-page : entryAt trace k ≡ pageOf e (pagePart trace k)
-    the-page = sym (ap (pageOf e) (page-part trace k) ∙ pe)
+module _ (t : Turn) where
+  abbrev page : Page
+  page = pageOf (t .e) (pagePart (t .trace) (t .k))
 
-    ahead : feedEach k s (pageOf e (pagePart trace k) ∷ later) ≡ feedEach 0 s₀ (entries trace)
-    unfolding later
-    ahead = rw (← the-page, ← entries-more trace k (length trace / 12) h) (d .rest)
+  later : List Page
+  later = entriesFrom (t .trace) (t .k + 1) (length (t .trace) / 12 - (t .k + 1))
 
-    number : q ≡ refusal (feedChecks s (pageOf e (pagePart trace k)))
-    number = entry-refusal s (pageOf e (pagePart trace k)) (d .fine) (page-5 trace k h) eq
+  the-page : entryAt (t .trace) (t .k) ≡ page
+  the-page = sym (ap (pageOf (t .e)) (page-part (t .trace) (t .k)) ∙ t .entry-is)
 
-    pub turn-ends : {x : FedMany} {a : Answer} → (q ≡ 0 → ⊥) → a ≡ endsWith k q → x ≡ record { state = s; answer = a; consumed = k } → x ≡ feedEach 0 s₀ (entries trace)
-    turn-ends ne ea ex = ex ∙ rw ea (each-ends k s (pageOf e (pagePart trace k)) later number ne ∙ ahead)
+  ahead : feedEach (t .k) (t .s) (page ∷ later) ≡ feedEach 0 (t .s₀) (entries (t .trace))
+  unfolding later
+  ahead = rw (← the-page, ← entries-more (t .trace) (t .k) (length (t .trace) / 12) (t .inside)) (t .left .rest)
 
-    module _ (z : q ≡ 0) where
-      pub turn-asks : refusal (feedChecks s (pageOf e (pagePart trace k))) ≡ 0
-      turn-asks = sym number ∙ z
+  number : t .q ≡ refusal (feedChecks (t .s) page)
+  number = entry-refusal (t .s) page (t .left .fine) (page-5 (t .trace) (t .k) (t .inside)) (t .number-is)
 
-      pub turn-time : e .time ≤ 604799
-      turn-time = fine s (pageOf e (pagePart trace k)) number z .in-week
+  pub turn-ends : {x : FedMany} {a : Answer} → (t .q ≡ 0 → ⊥) → a ≡ endsWith (t .k) (t .q) → x ≡ record { state = t .s; answer = a; consumed = t .k }
+      → x ≡ feedEach 0 (t .s₀) (entries (t .trace))
+  turn-ends ne ea ex = ex ∙ rw ea (each-ends (t .k) (t .s) page later number ne ∙ ahead)
 
-      module _ (r : PageTaken) {cs hk mk : List ℕ} (f : PageFed s (pageOf e (pagePart trace k)) r cs hk mk) where
-        pub turn-completes : {x : FedMany} {a : Answer} → completesOf r ≡ true → a ≡ answerOf r (e .week) (e .time / 30)
-            → x ≡ record { state = stateOf (e .week) (e .time / 30) cs hk mk; answer = a; consumed = k + 1 } → x ≡ feedEach 0 s₀ (entries trace)
-        turn-completes c ea ex =
-            ex ∙ rw (ea, is-gives r c) (each-completes k s (pageOf e (pagePart trace k)) later (f .fed) (is-gives r c) ∙ ahead)
-          where
-            is-gives : (r : PageTaken) → completesOf r ≡ true → answerOf r (e .week) (e .time / 30) ≡ gives (e .week ∷ 30 * (e .time / 30) ∷ [])
-            is-gives Unused c = cc
-            is-gives Used c = cc
-            is-gives Completes c = refl
+  module _ (z : t .q ≡ 0) where
+    pub turn-asks : refusal (feedChecks (t .s) page) ≡ 0
+    turn-asks = sym number ∙ z
 
-        pub turn-sound : Sound (stateOf (e .week) (e .time / 30) cs hk mk)
-        turn-sound = subst (λ (x : Fed). Sound (x .state)) (sym (f .fed)) (sound-fed s (pageOf e (pagePart trace k)) (d .fine))
+    pub turn-time : t .e .time ≤ 604799
+    turn-time = fine (t .s) page number z .in-week
 
-        pub turn-goes-on : completesOf r ≡ false → Left s₀ trace (k + 1) (stateOf (e .week) (e .time / 30) cs hk mk)
-        unfolding later
-        turn-goes-on c =
-            record {
-              few = omega arith;
-              first = d .first;
-              fine = turn-sound;
-              rest = each-goes-on k s (pageOf e (pagePart trace k)) later (f .fed) (is-nothing r c) ∙ ahead;
-            }
-          where
-            is-nothing : (r : PageTaken) → completesOf r ≡ false → answerOf r (e .week) (e .time / 30) ≡ nothing
-            is-nothing Unused c = refl
-            is-nothing Used c = refl
-            is-nothing Completes c = cc
+-- A turn whose page was taken.
+pub record Taken : Type 0 where
+  pub turn : Turn
+  pub passed : turn .q ≡ 0
+  pub r : PageTaken
+  pub counts : List ℕ
+  pub hkroot : List ℕ
+  pub mack : List ℕ
+  pub fed : PageFed (turn .s) (pageOf (turn .e) (pagePart (turn .trace) (turn .k))) r counts hkroot mack
+
+module _ (w : Taken) where
+  abbrev t : Turn
+  t = w .turn
+
+  abbrev e : Entry
+  e = w .turn .e
+
+  -- the state then
+  abbrev then : State
+  then = stateOf (e .week) (e .time / 30) (w .counts) (w .hkroot) (w .mack)
+
+  pub turn-completes : {x : FedMany} {a : Answer} → completesOf (w .r) ≡ true → a ≡ answerOf (w .r) (e .week) (e .time / 30)
+      → x ≡ record { state = then; answer = a; consumed = t .k + 1 } → x ≡ feedEach 0 (t .s₀) (entries (t .trace))
+  turn-completes c ea ex =
+      ex ∙ rw (ea, is-gives (w .r) c) (each-completes (t .k) (t .s) (page t) (later t) (w .fed .fed) (is-gives (w .r) c) ∙ ahead t)
+    where
+      is-gives : (r : PageTaken) → completesOf r ≡ true → answerOf r (e .week) (e .time / 30) ≡ gives (e .week ∷ 30 * (e .time / 30) ∷ [])
+      is-gives Unused c = cc
+      is-gives Used c = cc
+      is-gives Completes c = refl
+
+  pub turn-sound : Sound then
+  turn-sound = subst (λ (x : Fed). Sound (x .state)) (sym (w .fed .fed)) (sound-fed (t .s) (page t) (t .left .fine))
+
+  pub turn-goes-on : completesOf (w .r) ≡ false → Left (t .s₀) (t .trace) (t .k + 1) then
+  unfolding later
+  turn-goes-on c =
+      record {
+        few = omega (arith, t .inside);
+        first = t .left .first;
+        fine = turn-sound;
+        rest = each-goes-on (t .k) (t .s) (page t) (later t) (w .fed .fed) (is-nothing (w .r) c) ∙ ahead t;
+      }
+    where
+      is-nothing : (r : PageTaken) → completesOf r ≡ false → answerOf r (e .week) (e .time / 30) ≡ nothing
+      is-nothing Unused c = refl
+      is-nothing Used c = refl
+      is-nothing Completes c = cc
 
 -- The whole call.
 module _ (s : State) (trace : List ℕ) {q : ℕ} (e : q ≡ refusal (traceChecks s trace)) where

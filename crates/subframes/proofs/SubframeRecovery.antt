@@ -9,22 +9,25 @@ use mathlib.Core.List.{List, [], _∷_, _++_}
 use mathlib.Core.Bool.{Bool, true, false, cond, not, _&&_}
 use lib.ListN.{length, getD, take, drop, replicate, length-drop, getD-replicate}
 use lib.Seq.{length-take-le, getD-take, getD-drop, drop-drop, take-add}
-use lib.Dec.{leb, ltb, eqb}
+use lib.Dec.{leb, eqb}
 use borrow.Author.Tests.{le-leb, le-ltb, ne-eqb, eqb-true, eqb-false, ltb-false, leb-true, leb-false, not-false}
-use Rattle.layouts.specs.Answer.{Answer, refused, nothing, gives, shown, Check, _when_, refusal}
+use Rattle.layouts.specs.Answer.{Answer, refused, nothing, gives, shown, refusal}
+use Rattle.layouts.specs.Gst.{svnChecks}
 use Rattle.layouts.proofs.Answers.{none-fails}
-use Rattle.subframes.specs.Subframe.{State, new, Page, subframeOf, wordOf, Fed, small, viewChecks, feedChecks, changed, offered, feed, view}
+use Rattle.subframes.specs.Subframe.{State, new, Page, subframeOf, wordOf, Fed, small, viewChecks, feedChecks, fresh, changed, offered, feed, view}
 use Rattle.runs.specs.Runs.{goesOn, runFrom}
-use Rattle.subframes.specs.SubframeRecovery.{callChecks, isAdmitted, sameSubframe, before, grown, run, after, hasWord, noPage, Words, hkrootOf, mackOf, message, Built, ComesOut, Alike, Viewed, SubframesRecover}
+use Rattle.subframes.specs.SubframeRecovery.{callChecks, isAdmitted, sameSubframe, before, grown, run, after, hasWord, noPage, Words}
+use Rattle.subframes.specs.SubframeRecovery.{hkrootOf, mackOf, message, Built, ComesOut, Alike, Viewed, SubframesRecover, SubframesShow}
 use Rattle.runs.proofs.Basics.{and-true, part-is}
 use Rattle.subframes.proofs.Pages.{feed-refused, feed-admitted}
 use Rattle.subframes.proofs.SubframeSound.{Sound, sound-passes}
 use Rattle.runs.proofs.Rising.{taken-chain, shorter, earliest, reaches, chosen-kept}
-use Rattle.runs.proofs.Runs.{goes-on, before-twice, run-before, run-from, kept-by-all}
-use Rattle.subframes.proofs.SubframeRun.{words, pageOf, words-few, words-up, Of, Core, Step, offered-step}
+use Rattle.runs.proofs.Runs.{goes-on, before-twice, run-before, run-from, kept-by-all, firstFrom, as-the-first}
+use Rattle.subframes.proofs.SubframeRun.{words, pageOf, pairAt, words-few, words-up, Of, Core, Step, offered-step}
 
 -- The messages of a satellite, from the pages that it took.
-module _ (n : ℕ) (s : State) (r : List Page) (o : Of n s r) (some : 1 ≤ n) (few : n ≤ 36) (h540 : length (s .hkroot) ≡ 540) (m2160 : length (s .mack) ≡ 2160) where
+module _ (n : ℕ) (s : State) (r : List Page) (o : Of n s r) (some : 1 ≤ n) (few : n ≤ 36) (h540 : length (s .hkroot) ≡ 540)
+    (m2160 : length (s .mack) ≡ 2160) where
   abbrev hkrootPart : List ℕ
   hkrootPart = drop (15 * (n - 1)) (s .hkroot)
 
@@ -34,13 +37,16 @@ module _ (n : ℕ) (s : State) (r : List Page) (o : Of n s r) (some : 1 ≤ n) (
   one-byte : (m : ℕ) → m < words n r → take 1 (drop m hkrootPart) ≡ take 1 (pageOf n r m .bytes)
   one-byte m h =
       ap (take 1) (drop-drop m (15 * (n - 1)) (s .hkroot))
-      ∙ part-is 1 (s .hkroot) (15 * (n - 1) + m) (take 1 (pageOf n r m .bytes)) (omega (arith, words-few n r)) (length-take-le 1 (pageOf n r m .bytes) (omega (arith, o .five m h)))
-      (λ i l. ap (λ (j : ℕ). getD (s .hkroot) j 0) (omega arith) ∙ o .hk m h ∙ ap (λ (j : ℕ). getD (pageOf n r m .bytes) j 0) (omega arith) ∙ sym (getD-take 1 (pageOf n r m .bytes) i 0 l))
+      ∙ part-is 1 (s .hkroot) (15 * (n - 1) + m) (take 1 (pageOf n r m .bytes)) (omega (arith, words-few n r))
+      (length-take-le 1 (pageOf n r m .bytes) (omega (arith, o .five m h)))
+      (λ i l. ap (λ (j : ℕ). getD (s .hkroot) j 0) (omega arith) ∙ o .hk m h ∙ ap (λ (j : ℕ). getD (pageOf n r m .bytes) j 0) (omega arith)
+      ∙ sym (getD-take 1 (pageOf n r m .bytes) i 0 l))
 
   four-bytes : (m : ℕ) → m < words n r → take 4 (drop (4 * m) mackPart) ≡ drop 1 (pageOf n r m .bytes)
   four-bytes m h =
       ap (take 4) (drop-drop (4 * m) (60 * (n - 1)) (s .mack))
-      ∙ part-is 4 (s .mack) (60 * (n - 1) + 4 * m) (drop 1 (pageOf n r m .bytes)) (omega (arith, words-few n r)) (length-drop 1 (pageOf n r m .bytes) ∙ omega (arith, o .five m h))
+      ∙ part-is 4 (s .mack) (60 * (n - 1) + 4 * m) (drop 1 (pageOf n r m .bytes)) (omega (arith, words-few n r))
+      (length-drop 1 (pageOf n r m .bytes) ∙ omega (arith, o .five m h))
       (λ i l. o .mk m i h l ∙ ap (λ (j : ℕ). getD (pageOf n r m .bytes) j 0) (omega arith) ∙ sym (getD-drop 1 (pageOf n r m .bytes) i 0))
 
   hkroot-of : (m : ℕ) → m ≤ words n r → take m hkrootPart ≡ hkrootOf (pageOf n r) m
@@ -76,11 +82,8 @@ module _ (n : ℕ) (s : State) (r : List Page) (o : Of n s r) (some : 1 ≤ n) (
         }
 
 -- What is refused at a record that is not.
-abbrev satelliteChecks : ℕ → List Check
-satelliteChecks n = 2 when ltb n 1 ∷ 2 when ltb 36 n ∷ []
-
-view-number : (s : State) → Sound s → (n : ℕ) → refusal (viewChecks s n) ≡ refusal (satelliteChecks n)
-view-number s l n = sound-passes s l (satelliteChecks n)
+view-number : (s : State) → Sound s → (n : ℕ) → refusal (viewChecks s n) ≡ refusal (svnChecks n)
+view-number s l n = sound-passes s l (svnChecks n)
 
 feed-number : (s : State) → Sound s → (p : Page) → refusal (feedChecks s p) ≡ refusal (callChecks p)
 unfolding refusal
@@ -107,14 +110,15 @@ admitted-is p e =
 
 -- What the viewer shows, said of the run alone.
 abbrev viewOf : List Page → ℕ → ℕ → Answer
-viewOf r size n = cond (eqb (refusal (satelliteChecks n)) 0) (cond (leb 15 (words n r)) (gives (size * (n - 1) ∷ size ∷ [])) nothing) (refused (refusal (satelliteChecks n)))
+viewOf r size n =
+    cond (eqb (refusal (svnChecks n)) 0) (cond (leb 15 (words n r)) (gives (size * (n - 1) ∷ size ∷ [])) nothing) (refused (refusal (svnChecks n)))
 
-seen : (n : ℕ) → eqb (refusal (satelliteChecks n)) 0 ≡ true → (1 ≤ n) × (n ≤ 36)
+seen : (n : ℕ) → eqb (refusal (svnChecks n)) 0 ≡ true → (1 ≤ n) × (n ≤ 36)
 seen n e =
-    let f = none-fails (satelliteChecks n) tt (eqb-true (refusal (satelliteChecks n)) 0 e) in
+    let f = none-fails (svnChecks n) tt (eqb-true (refusal (svnChecks n)) 0 e) in
     (ltb-false n 1 (f .0), ltb-false 36 n (f .1 .0))
 
-in-range : (n : ℕ) → 1 ≤ n → n ≤ 36 → eqb (refusal (satelliteChecks n)) 0 ≡ true
+in-range : (n : ℕ) → 1 ≤ n → n ≤ 36 → eqb (refusal (svnChecks n)) 0 ≡ true
 unfolding refusal
 in-range n l u = rw (le-ltb n 1 l, le-ltb 36 n u)
 
@@ -132,32 +136,35 @@ eqb-top m l = go (ℕ-discrete m 15)
 module _ (week subframe : ℕ) (s : State) (r : List Page) (k : Core week subframe s r) (l : Sound s) where
   core-view : (size n : ℕ) → view s size n ≡ viewOf r size n
   unfolding view
-  core-view size n = rw (view-number s l n) (go (eqb (refusal (satelliteChecks n)) 0) refl)
+  core-view size n = rw (view-number s l n) (go (eqb (refusal (svnChecks n)) 0) refl)
     where
-      go : (b : Bool) → eqb (refusal (satelliteChecks n)) 0 ≡ b
-          → cond b (cond (eqb (getD (s .counts) (n - 1) 0) 15) (gives (size * (n - 1) ∷ size ∷ [])) nothing) (refused (refusal (satelliteChecks n)))
-          ≡ cond b (cond (leb 15 (words n r)) (gives (size * (n - 1) ∷ size ∷ [])) nothing) (refused (refusal (satelliteChecks n)))
+      go : (b : Bool) → eqb (refusal (svnChecks n)) 0 ≡ b
+          → cond b (cond (eqb (getD (s .counts) (n - 1) 0) 15) (gives (size * (n - 1) ∷ size ∷ [])) nothing) (refused (refusal (svnChecks n)))
+          ≡ cond b (cond (leb 15 (words n r)) (gives (size * (n - 1) ∷ size ∷ [])) nothing) (refused (refusal (svnChecks n)))
       go true e =
           let h = seen n e in
-          ap (λ (x : Bool). cond x (gives (size * (n - 1) ∷ size ∷ [])) nothing) (ap (λ (m : ℕ). eqb m 15) (k .of n (h .0) (h .1) .count-is) ∙ eqb-top (words n r) (words-few n r))
+          ap (λ (x : Bool). cond x (gives (size * (n - 1) ∷ size ∷ [])) nothing)
+          (ap (λ (m : ℕ). eqb m 15) (k .of n (h .0) (h .1) .count-is) ∙ eqb-top (words n r) (words-few n r))
       go false e = refl
 
-  core-hkroot : (n : ℕ) → shown (s .hkroot) (view s 15 n) ≡ cond (eqb (refusal (satelliteChecks n)) 0 && leb 15 (words n r)) (hkrootOf (pageOf n r) 15) []
+  core-hkroot : (n : ℕ) → shown (s .hkroot) (view s 15 n) ≡ cond (eqb (refusal (svnChecks n)) 0 && leb 15 (words n r)) (hkrootOf (pageOf n r) 15) []
   unfolding shown
-  core-hkroot n = ap (shown (s .hkroot)) (core-view 15 n) ∙ go (eqb (refusal (satelliteChecks n)) 0) refl (leb 15 (words n r)) refl
+  core-hkroot n = ap (shown (s .hkroot)) (core-view 15 n) ∙ go (eqb (refusal (svnChecks n)) 0) refl (leb 15 (words n r)) refl
     where
-      go : (a : Bool) → eqb (refusal (satelliteChecks n)) 0 ≡ a → (b : Bool) → leb 15 (words n r) ≡ b
-          → shown (s .hkroot) (cond a (cond b (gives (15 * (n - 1) ∷ 15 ∷ [])) nothing) (refused (refusal (satelliteChecks n)))) ≡ cond (a && b) (hkrootOf (pageOf n r) 15) []
+      go : (a : Bool) → eqb (refusal (svnChecks n)) 0 ≡ a → (b : Bool) → leb 15 (words n r) ≡ b
+          → shown (s .hkroot) (cond a (cond b (gives (15 * (n - 1) ∷ 15 ∷ [])) nothing) (refused (refusal (svnChecks n))))
+          ≡ cond (a && b) (hkrootOf (pageOf n r) 15) []
       go true e true f = let h = seen n e in hkroot-message n s r (k .of n (h .0) (h .1)) (h .0) (h .1) (k .h540) (k .m2160) (leb-true 15 (words n r) f)
       go true e false f = refl
       go false e b f = refl
 
-  core-mack : (n : ℕ) → shown (s .mack) (view s 60 n) ≡ cond (eqb (refusal (satelliteChecks n)) 0 && leb 15 (words n r)) (mackOf (pageOf n r) 15) []
+  core-mack : (n : ℕ) → shown (s .mack) (view s 60 n) ≡ cond (eqb (refusal (svnChecks n)) 0 && leb 15 (words n r)) (mackOf (pageOf n r) 15) []
   unfolding shown
-  core-mack n = ap (shown (s .mack)) (core-view 60 n) ∙ go (eqb (refusal (satelliteChecks n)) 0) refl (leb 15 (words n r)) refl
+  core-mack n = ap (shown (s .mack)) (core-view 60 n) ∙ go (eqb (refusal (svnChecks n)) 0) refl (leb 15 (words n r)) refl
     where
-      go : (a : Bool) → eqb (refusal (satelliteChecks n)) 0 ≡ a → (b : Bool) → leb 15 (words n r) ≡ b
-          → shown (s .mack) (cond a (cond b (gives (60 * (n - 1) ∷ 60 ∷ [])) nothing) (refused (refusal (satelliteChecks n)))) ≡ cond (a && b) (mackOf (pageOf n r) 15) []
+      go : (a : Bool) → eqb (refusal (svnChecks n)) 0 ≡ a → (b : Bool) → leb 15 (words n r) ≡ b
+          → shown (s .mack) (cond a (cond b (gives (60 * (n - 1) ∷ 60 ∷ [])) nothing) (refused (refusal (svnChecks n))))
+          ≡ cond (a && b) (mackOf (pageOf n r) 15) []
       go true e true f = let h = seen n e in mack-message n s r (k .of n (h .0) (h .1)) (h .0) (h .1) (k .h540) (k .m2160) (leb-true 15 (words n r) f)
       go true e false f = refl
       go false e b f = refl
@@ -175,7 +182,9 @@ module _ (week subframe : ℕ) (s : State) (r : List Page) (k : Core week subfra
       go size w false e = refl
 
 -- Another subframe, or the same.
-fresh-core : (week subframe : ℕ) (h m : List ℕ) → length h ≡ 540 → length m ≡ 2160 → Core week subframe (record { week = week; subframe = subframe; counts = replicate 36 0; hkroot = h; mack = m }) []
+fresh-core :
+    (week subframe : ℕ) (h m : List ℕ) → length h ≡ 540 → length m ≡ 2160
+    → Core week subframe (record { week = week; subframe = subframe; counts = replicate 36 0; hkroot = h; mack = m }) []
 unfolding small
 fresh-core week subframe h m lh lm =
     record {
@@ -185,45 +194,50 @@ fresh-core week subframe h m lh lm =
       m2160 = lm;
       c36 = refl;
       is-small = refl;
-      of = λ n l u. record { count-is = getD-replicate 36 (n - 1) 0 0 (omega arith); five = λ k h. absurd (omega arith); hk = λ k h. absurd (omega arith); mk = λ k b h g. absurd (omega arith) };
+      of =
+          λ n l u. record {
+            count-is = getD-replicate 36 (n - 1) 0 0 (omega arith);
+            five = λ k h. absurd (omega arith);
+            hk = λ k h. absurd (omega arith);
+            mk = λ k b h g. absurd (omega arith);
+          };
     }
 
-changed-core : (w t : ℕ) (s : State) (r : List Page) → Core w t s r → (week subframe : ℕ) → Core week subframe (changed s week subframe) (cond (eqb w week && eqb t subframe) r [])
+changed-core :
+    (w t : ℕ) (s : State) (r : List Page) → Core w t s r → (week subframe : ℕ)
+    → Core week subframe (changed s week subframe) (cond (eqb w week && eqb t subframe) r [])
 unfolding changed
 changed-core w t s r k week subframe = go (eqb w week) refl (eqb t subframe) refl
   where
     same : (eqb (s .week) week && eqb (s .subframe) subframe) ≡ (eqb w week && eqb t subframe)
     same = ap (λ (x : ℕ). eqb x week && eqb (s .subframe) subframe) (k .week-is) ∙ ap (λ (x : ℕ). eqb w week && eqb x subframe) (k .subframe-is)
 
-    fresh : State
-    fresh = record { week = week; subframe = subframe; counts = replicate 36 0; hkroot = s .hkroot; mack = s .mack }
-
     go : (a : Bool) → eqb w week ≡ a → (b : Bool) → eqb t subframe ≡ b → Core week subframe (changed s week subframe) (cond (a && b) r [])
     go true e true f =
         let both : (eqb w week && eqb t subframe) ≡ true = rw (e, f) in
-        let is : changed s week subframe ≡ s = ap (λ (x : Bool). cond x s fresh) (same ∙ both) in
-        subst⁻¹ (λ (x : State). Core week subframe x r) is (subst (λ (x : ℕ). Core week x s r) (eqb-true t subframe f) (subst (λ (x : ℕ). Core x t s r) (eqb-true w week e) k))
+        let is : changed s week subframe ≡ s = ap (λ (x : Bool). cond x s (fresh s week subframe)) (same ∙ both) in
+        subst⁻¹ (λ (x : State). Core week subframe x r) is
+        (subst (λ (x : ℕ). Core week x s r) (eqb-true t subframe f) (subst (λ (x : ℕ). Core x t s r) (eqb-true w week e) k))
     go true e false f =
         let one : (eqb w week && eqb t subframe) ≡ false = rw (e, f) in
-        let is : changed s week subframe ≡ fresh = ap (λ (x : Bool). cond x s fresh) (same ∙ one) in
+        let is : changed s week subframe ≡ fresh s week subframe = ap (λ (x : Bool). cond x s (fresh s week subframe)) (same ∙ one) in
         subst⁻¹ (λ (x : State). Core week subframe x []) is (fresh-core week subframe (s .hkroot) (s .mack) (k .h540) (k .m2160))
     go false e b f =
         let other : (eqb w week && eqb t subframe) ≡ false = rw e in
-        let is : changed s week subframe ≡ fresh = ap (λ (x : Bool). cond x s fresh) (same ∙ other) in
+        let is : changed s week subframe ≡ fresh s week subframe = ap (λ (x : Bool). cond x s (fresh s week subframe)) (same ∙ other) in
         subst⁻¹ (λ (x : State). Core week subframe x []) is (fresh-core week subframe (s .hkroot) (s .mack) (k .h540) (k .m2160))
 
 changed-memory : (s : State) (week subframe : ℕ) → (changed s week subframe .hkroot ≡ s .hkroot) × (changed s week subframe .mack ≡ s .mack)
 unfolding changed
 changed-memory s week subframe = go (eqb (s .week) week && eqb (s .subframe) subframe)
   where
-    go : (b : Bool)
-        → (cond b s (record { week = week; subframe = subframe; counts = replicate 36 0; hkroot = s .hkroot; mack = s .mack }) .hkroot ≡ s .hkroot)
-        × (cond b s (record { week = week; subframe = subframe; counts = replicate 36 0; hkroot = s .hkroot; mack = s .mack }) .mack ≡ s .mack)
+    go : (b : Bool) → (cond b s (fresh s week subframe) .hkroot ≡ s .hkroot) × (cond b s (fresh s week subframe) .mack ≡ s .mack)
     go true = (refl, refl)
     go false = (refl, refl)
 
 core-sound : (week subframe : ℕ) (s : State) (r : List Page) → Core week subframe s r → week ≤ 4095 → subframe ≤ 20159 → Sound s
-core-sound week subframe s r k w t = record { h540 = k .h540; m2160 = k .m2160; week-fits = rw (k .week-is) w; subframe-fits = rw (k .subframe-is) t; all-small = k .is-small }
+core-sound week subframe s r k w t =
+    record { h540 = k .h540; m2160 = k .m2160; week-fits = rw (k .week-is) w; subframe-fits = rw (k .subframe-is) t; all-small = k .is-small }
 
 -- What holds between two calls: whatever comes next, the collector is at its run.
 record Holds (s : State) (r : List Page) : Type 0 where
@@ -235,7 +249,9 @@ new-holds h m lh lm =
     let k : Core 0 0 (new h m) [] = fresh-core 0 0 h m lh lm in
     record {
       sound = core-sound 0 0 (new h m) [] k (omega arith) (omega arith);
-      at-run = λ p. subst (λ (r : List Page). Core (p .week) (subframeOf (p .time)) (changed (new h m) (p .week) (subframeOf (p .time))) r) (none (eqb 0 (p .week) && eqb 0 (subframeOf (p .time)))) (changed-core 0 0 (new h m) [] k (p .week) (subframeOf (p .time)));
+      at-run =
+          λ p. subst (λ (r : List Page). Core (p .week) (subframeOf (p .time)) (changed (new h m) (p .week) (subframeOf (p .time))) r)
+          (none (eqb 0 (p .week) && eqb 0 (subframeOf (p .time)))) (changed-core 0 0 (new h m) [] k (p .week) (subframeOf (p .time)));
     }
   where
     none : (b : Bool) → cond {A = List Page} b [] [] ≡ []
@@ -247,6 +263,10 @@ same-as-first x c d e =
     let q = and-true (eqb (x .week) (c .week)) (eqb (subframeOf (x .time)) (subframeOf (c .time))) e in
     ap (λ (k : ℕ). eqb k (d .week) && eqb (subframeOf (x .time)) (subframeOf (d .time))) (eqb-true (x .week) (c .week) (q .0))
     ∙ ap (λ (k : ℕ). eqb (c .week) (d .week) && eqb k (subframeOf (d .time))) (eqb-true (subframeOf (x .time)) (subframeOf (c .time)) (q .1))
+
+-- a run cut by its first page instead of the one before is the same
+pub run-by-first : (ps : List Page) → run ps ≡ firstFrom isAdmitted sameSubframe [] ps
+run-by-first ps = as-the-first isAdmitted sameSubframe same-as-first ps
 
 -- A call, at a run.
 module _ (s : State) (r : List Page) (w : Holds s r) (p : Page) where
@@ -267,7 +287,9 @@ module _ (s : State) (r : List Page) (w : Holds s r) (p : Page) where
     grown-is = rw e
 
     fed-step : Step (p .week) (subframeOf (p .time)) p (before r p) (feed s p)
-    fed-step = subst⁻¹ (λ (f : Fed). Step (p .week) (subframeOf (p .time)) p (before r p) f) offered-is (offered-step (p .week) (subframeOf (p .time)) begun (before r p) (w .at-run p) p (fine .p5) (fine .some) (fine .few))
+    fed-step =
+        subst⁻¹ (λ (f : Fed). Step (p .week) (subframeOf (p .time)) p (before r p) f) offered-is
+        (offered-step (p .week) (subframeOf (p .time)) begun (before r p) (w .at-run p) p (fine .p5) (fine .some) (fine .few))
 
     fed-core : Core (p .week) (subframeOf (p .time)) (feed s p .state) (grown r p)
     fed-core = subst⁻¹ (λ (l : List Page). Core (p .week) (subframeOf (p .time)) (feed s p .state) l) grown-is (fed-step .core)
@@ -275,14 +297,19 @@ module _ (s : State) (r : List Page) (w : Holds s r) (p : Page) where
     fed-sound : Sound (feed s p .state)
     fed-sound = core-sound (p .week) (subframeOf (p .time)) (feed s p .state) (grown r p) fed-core (fine .in-weeks) (omega (arith, fine .in-week))
 
+    goes-with : (q : Page) → goesOn isAdmitted sameSubframe (grown r p) q ≡ sameSubframe p q
+    goes-with q = ap (λ (l : List Page). goesOn isAdmitted sameSubframe l q) grown-is ∙ goes-on isAdmitted sameSubframe (before r p) p q
+
     fed-holds : Holds (feed s p .state) (grown r p)
     fed-holds =
         record {
           sound = fed-sound;
           at-run = λ q.
-              let on : goesOn isAdmitted sameSubframe (grown r p) q ≡ sameSubframe p q = ap (λ (l : List Page). goesOn isAdmitted sameSubframe l q) grown-is ∙ goes-on isAdmitted sameSubframe same-as-first r p q in
-              subst⁻¹ (λ (b : Bool). Core (q .week) (subframeOf (q .time)) (changed (feed s p .state) (q .week) (subframeOf (q .time))) (cond b (grown r p) [])) on
-              (changed-core (p .week) (subframeOf (p .time)) (feed s p .state) (grown r p) fed-core (q .week) (subframeOf (q .time)));
+              let week = q .week in
+              let subframe = subframeOf (q .time) in
+              let t = feed s p .state in
+              subst⁻¹ (λ (b : Bool). Core week subframe (changed t week subframe) (cond b (grown r p) [])) (goes-with q)
+              (changed-core (p .week) (subframeOf (p .time)) t (grown r p) fed-core week subframe);
         }
 
   still-holds : isAdmitted p ≡ false → Holds (feed s p .state) (grown r p)
@@ -301,7 +328,7 @@ after-holds : (s : State) (r ps : List Page) → Holds s r → Holds (after s ps
 after-holds s r ps h = kept-by-all isAdmitted sameSubframe (λ (t : State) (p : Page). feed t p .state) Holds call-holds s r ps h
 
 -- Two collectors that are at the same run.
-same-run : (s t : State) (r q : List Page) (p : Page) → Holds s r → Holds t q → isAdmitted p ≡ true → before r p ≡ before q p → Alike s t p
+same-run : (s t : State) (r q : List Page) (p : Page) → Holds s r → Holds t q → isAdmitted p ≡ true → before r p ≡ before q p → Alike (feed s p) (feed t p)
 same-run s t r q p a b e h =
     let g : grown r p ≡ grown q p = rw e (ap (λ (l : List Page). l ++ (p ∷ [])) h) in
     let ks = fed-core s r a p e in
@@ -310,20 +337,22 @@ same-run s t r q p a b e h =
     let lt = fed-sound t q b p e in
     record {
       answer = fed-step s r a p e .answer
-          ∙ ap (λ (l : List Page). cond (leb 15 (words (p .satellite) (l ++ (p ∷ []))) && not (leb 15 (words (p .satellite) l))) (gives (p .week ∷ 30 * subframeOf (p .time) ∷ [])) nothing) h
+          ∙ ap (λ (l : List Page). pairAt (p .week) (subframeOf (p .time)) (p .satellite) l p) h
           ∙ sym (fed-step t q b p e .answer);
       view-is = λ size n. core-view (p .week) (subframeOf (p .time)) (feed s p .state) (grown r p) ks ls size n
           ∙ ap (λ (l : List Page). viewOf l size n) g
           ∙ sym (core-view (p .week) (subframeOf (p .time)) (feed t p .state) (grown q p) kt lt size n);
       hkroot-is = λ n. core-hkroot (p .week) (subframeOf (p .time)) (feed s p .state) (grown r p) ks ls n
-          ∙ ap (λ (l : List Page). cond (eqb (refusal (satelliteChecks n)) 0 && leb 15 (words n l)) (hkrootOf (pageOf n l) 15) []) g
+          ∙ ap (λ (l : List Page). cond (eqb (refusal (svnChecks n)) 0 && leb 15 (words n l)) (hkrootOf (pageOf n l) 15) []) g
           ∙ sym (core-hkroot (p .week) (subframeOf (p .time)) (feed t p .state) (grown q p) kt lt n);
       mack-is = λ n. core-mack (p .week) (subframeOf (p .time)) (feed s p .state) (grown r p) ks ls n
-          ∙ ap (λ (l : List Page). cond (eqb (refusal (satelliteChecks n)) 0 && leb 15 (words n l)) (mackOf (pageOf n l) 15) []) g
+          ∙ ap (λ (l : List Page). cond (eqb (refusal (svnChecks n)) 0 && leb 15 (words n l)) (mackOf (pageOf n l) 15) []) g
           ∙ sym (core-mack (p .week) (subframeOf (p .time)) (feed t p .state) (grown q p) kt lt n);
     }
 
-like-new-at : (s : State) (r : List Page) → Holds s r → run r ≡ r → (p : Page) (h m : List ℕ) → length h ≡ 540 → length m ≡ 2160 → isAdmitted p ≡ true → Alike s (after (new h m) (before r p)) p
+like-new-at :
+    (s : State) (r : List Page) → Holds s r → run r ≡ r → (p : Page) (h m : List ℕ) → length h ≡ 540 → length m ≡ 2160 → isAdmitted p ≡ true
+    → Alike (feed s p) (feed (after (new h m) (before r p)) p)
 like-new-at s r w own p h m lh lm e =
     same-run s (after (new h m) (before r p)) r (run (before r p)) p w (after-holds (new h m) [] (before r p) (new-holds h m lh lm)) e
     (sym (ap (λ (q : List Page). before q p) (run-before isAdmitted sameSubframe r p own) ∙ before-twice isAdmitted sameSubframe r p))
@@ -331,8 +360,14 @@ like-new-at s r w own p h m lh lm e =
 -- When the pair comes out.
 came-out : (a b : Bool) (x : Answer) (l : List ℕ) → x ≡ cond (a && not b) (gives l) nothing → (x ≡ gives l) ↔ ((a ≡ true) × (b ≡ false))
 came-out true false x l e = (λ z. (refl, refl), λ z. e)
-came-out true true x l e = (λ z. let q : nothing ≡ gives l = sym e ∙ z in let z : _≡_ {A = ℕ} 0 1 = cc in absurd (omega arith), λ z. let q : true ≡ false = z .1 in let y : _≡_ {A = ℕ} 0 1 = cc in absurd (omega arith))
-came-out false b x l e = (λ z. let q : nothing ≡ gives l = sym e ∙ z in let z : _≡_ {A = ℕ} 0 1 = cc in absurd (omega arith), λ z. let q : false ≡ true = z .0 in let y : _≡_ {A = ℕ} 0 1 = cc in absurd (omega arith))
+came-out true true x l e = (
+  λ z. let q : nothing ≡ gives l = sym e ∙ z in let z : _≡_ {A = ℕ} 0 1 = cc in absurd (omega arith),
+  λ z. let q : true ≡ false = z .1 in let y : _≡_ {A = ℕ} 0 1 = cc in absurd (omega arith),
+)
+came-out false b x l e = (
+  λ z. let q : nothing ≡ gives l = sym e ∙ z in let z : _≡_ {A = ℕ} 0 1 = cc in absurd (omega arith),
+  λ z. let q : false ≡ true = z .0 in let y : _≡_ {A = ℕ} 0 1 = cc in absurd (omega arith),
+)
 
 stayed-in : (a b : Bool) (x : Answer) (l : List ℕ) → x ≡ cond (a && not b) (gives l) nothing → (x ≡ gives l → ⊥) → x ≡ nothing
 stayed-in true false x l e ne = absurd (ne e)
@@ -344,7 +379,9 @@ module _ (s : State) (r : List Page) (w : Holds s r) (p : Page) (e : isAdmitted 
   n = p .satellite
 
   out-now : ComesOut (feed s p .answer) p ↔ ((leb 15 (words n (before r p ++ (p ∷ []))) ≡ true) × (leb 15 (words n (before r p)) ≡ false))
-  out-now = came-out (leb 15 (words n (before r p ++ (p ∷ [])))) (leb 15 (words n (before r p))) (feed s p .answer) (p .week ∷ 30 * subframeOf (p .time) ∷ []) (fed-step s r w p e .answer)
+  out-now =
+      came-out (leb 15 (words n (before r p ++ (p ∷ [])))) (leb 15 (words n (before r p))) (feed s p .answer)
+      (p .week ∷ 30 * subframeOf (p .time) ∷ []) (fed-step s r w p e .answer)
 
   all-there : leb 15 (words n (before r p ++ (p ∷ []))) ≡ true → 15 ≤ words n (grown r p)
   all-there h = rw (grown-is s r w p e) (leb-true 15 (words n (before r p ++ (p ∷ []))) h)
@@ -375,12 +412,16 @@ module _ (s : State) (r : List Page) (w : Holds s r) (p : Page) (e : isAdmitted 
 hkroot-same : (f g : ℕ → Page) (m : ℕ) → ((k : ℕ) → k < m → f k ≡ g k) → hkrootOf f m ≡ hkrootOf g m
 unfolding hkrootOf
 hkroot-same f g zero h = refl
-hkroot-same f g (suc m) h = ap (λ (x : List ℕ). x ++ take 1 (f m .bytes)) (hkroot-same f g m (λ k l. h k (omega arith))) ∙ ap (λ (q : Page). hkrootOf g m ++ take 1 (q .bytes)) (h m (omega arith))
+hkroot-same f g (suc m) h =
+    ap (λ (x : List ℕ). x ++ take 1 (f m .bytes)) (hkroot-same f g m (λ k l. h k (omega arith)))
+    ∙ ap (λ (q : Page). hkrootOf g m ++ take 1 (q .bytes)) (h m (omega arith))
 
 mack-same : (f g : ℕ → Page) (m : ℕ) → ((k : ℕ) → k < m → f k ≡ g k) → mackOf f m ≡ mackOf g m
 unfolding mackOf
 mack-same f g zero h = refl
-mack-same f g (suc m) h = ap (λ (x : List ℕ). x ++ drop 1 (f m .bytes)) (mack-same f g m (λ k l. h k (omega arith))) ∙ ap (λ (q : Page). mackOf g m ++ drop 1 (q .bytes)) (h m (omega arith))
+mack-same f g (suc m) h =
+    ap (λ (x : List ℕ). x ++ drop 1 (f m .bytes)) (mack-same f g m (λ k l. h k (omega arith)))
+    ∙ ap (λ (q : Page). mackOf g m ++ drop 1 (q .bytes)) (h m (omega arith))
 
 stays : (s : State) (r : List Page) → Holds s r → (p : Page) → goesOn isAdmitted sameSubframe r p ≡ true → (n : ℕ) → 1 ≤ n → n ≤ 36 → Words n r
     → (message 15 n (feed s p .state .hkroot) ≡ message 15 n (s .hkroot)) × (message 60 n (feed s p .state .mack) ≡ message 60 n (s .mack))
@@ -389,21 +430,28 @@ stays s r w p on n some few all = go (isAdmitted p) refl
     here : before r p ≡ r
     here = rw on
 
-    go : (b : Bool) → isAdmitted p ≡ b → (message 15 n (feed s p .state .hkroot) ≡ message 15 n (s .hkroot)) × (message 60 n (feed s p .state .mack) ≡ message 60 n (s .mack))
-    go false e = (ap (λ (f : Fed). message 15 n (f .state .hkroot)) (refused-is s r w p e), ap (λ (f : Fed). message 60 n (f .state .mack)) (refused-is s r w p e))
+    kept : 15 ≤ words n (before r p) → (j : ℕ) → j < 15 → pageOf n (before r p ++ (p ∷ [])) j ≡ pageOf n (before r p) j
+    kept full j l = chosen-kept (hasWord n) noPage (before r p) 0 p j (omega arith) (omega (arith, full, l))
+
+    go :
+        (b : Bool) → isAdmitted p ≡ b
+        → (message 15 n (feed s p .state .hkroot) ≡ message 15 n (s .hkroot)) × (message 60 n (feed s p .state .mack) ≡ message 60 n (s .mack))
+    go false e = (
+      ap (λ (f : Fed). message 15 n (f .state .hkroot)) (refused-is s r w p e),
+      ap (λ (f : Fed). message 60 n (f .state .mack)) (refused-is s r w p e),
+    )
     go true e =
         let c = w .at-run p in
         let k = fed-step s r w p e .core in
         let same = changed-memory s (p .week) (subframeOf (p .time)) in
         let full : 15 ≤ words n (before r p) = rw here (reaches (hasWord n) noPage r 0 15 .1 all) in
-        let more : words n (before r p) ≤ words n (before r p ++ (p ∷ [])) = words-up n (before r p) p in
-        let kept : (j : ℕ) → j < 15 → pageOf n (before r p ++ (p ∷ [])) j ≡ pageOf n (before r p) j = (λ j l. chosen-kept (hasWord n) noPage (before r p) 0 p j (omega arith) (omega (arith, full, l))) in (
+        let more : words n (before r p) ≤ words n (before r p ++ (p ∷ [])) = words-up n (before r p) p in (
           hkroot-message n (feed s p .state) (before r p ++ (p ∷ [])) (k .of n some few) some few (k .h540) (k .m2160) (omega (arith, full, more))
-              ∙ hkroot-same (pageOf n (before r p ++ (p ∷ []))) (pageOf n (before r p)) 15 kept
+              ∙ hkroot-same (pageOf n (before r p ++ (p ∷ []))) (pageOf n (before r p)) 15 (kept full)
               ∙ sym (hkroot-message n (changed s (p .week) (subframeOf (p .time))) (before r p) (c .of n some few) some few (c .h540) (c .m2160) full)
               ∙ ap (message 15 n) (same .0),
           mack-message n (feed s p .state) (before r p ++ (p ∷ [])) (k .of n some few) some few (k .h540) (k .m2160) (omega (arith, full, more))
-              ∙ mack-same (pageOf n (before r p ++ (p ∷ []))) (pageOf n (before r p)) 15 kept
+              ∙ mack-same (pageOf n (before r p ++ (p ∷ []))) (pageOf n (before r p)) 15 (kept full)
               ∙ sym (mack-message n (changed s (p .week) (subframeOf (p .time))) (before r p) (c .of n some few) some few (c .h540) (c .m2160) full)
               ∙ ap (message 60 n) (same .1),
         )
@@ -415,9 +463,37 @@ subframes-recover h m lh lm ps p =
     record {
       like-new = like-new-at s (run ps) w (run-from isAdmitted sameSubframe [] ps refl) p;
       exactly-when = λ e. comes-out s (run ps) w p e;
-      else-nothing = λ e ne. stayed-in (leb 15 (words (p .satellite) (before (run ps) p ++ (p ∷ [])))) (leb 15 (words (p .satellite) (before (run ps) p))) (feed s p .answer) (p .week ∷ 30 * subframeOf (p .time) ∷ []) (fed-step s (run ps) w p e .answer) ne;
+      else-nothing =
+          λ e ne. stayed-in (leb 15 (words (p .satellite) (before (run ps) p ++ (p ∷ [])))) (leb 15 (words (p .satellite) (before (run ps) p)))
+          (feed s p .answer) (p .week ∷ 30 * subframeOf (p .time) ∷ []) (fed-step s (run ps) w p e .answer) ne;
       earliest = λ e z. built-then s (run ps) w p e z;
-      viewed = λ e n some few. core-viewed (p .week) (subframeOf (p .time)) (feed s p .state) (grown (run ps) p) (fed-core s (run ps) w p e) (fed-sound s (run ps) w p e) n some few;
+      viewed =
+          λ e n some few. core-viewed (p .week) (subframeOf (p .time)) (feed s p .state) (grown (run ps) p) (fed-core s (run ps) w p e)
+          (fed-sound s (run ps) w p e) n some few;
       until-changed = λ on n some few all. stays s (run ps) w p on n some few all;
       refused-call = refused-is s (run ps) w p;
     }
+
+-- What is shown between the calls.
+record Seen (s : State) (r : List Page) : Type 0 where
+  holds : Holds s r
+  sees : (n : ℕ) → 1 ≤ n → n ≤ 36 → Viewed s r n
+
+seen-call : (s : State) (r : List Page) → Seen s r → (p : Page) → Seen (feed s p .state) (grown r p)
+seen-call s r w p = record { holds = call-holds s r (w .holds) p; sees = λ n some few. go n some few (isAdmitted p) refl }
+  where
+    go : (n : ℕ) → 1 ≤ n → n ≤ 36 → (b : Bool) → isAdmitted p ≡ b → Viewed (feed s p .state) (grown r p) n
+    go n some few true e =
+        core-viewed (p .week) (subframeOf (p .time)) (feed s p .state) (grown r p) (fed-core s r (w .holds) p e) (fed-sound s r (w .holds) p e) n some
+        few
+    go n some few false e =
+        let same : grown r p ≡ r = rw e in
+        subst⁻¹ (λ (l : List Page). Viewed (feed s p .state) l n) same
+        (subst⁻¹ (λ (f : Fed). Viewed (f .state) r n) (refused-is s r (w .holds) p e) (w .sees n some few))
+
+pub subframes-show : SubframesShow
+subframes-show h m lh lm ps n some few =
+    let k : Core 0 0 (new h m) [] = fresh-core 0 0 h m lh lm in
+    let first : Seen (new h m) [] = record
+    { holds = new-holds h m lh lm; sees = core-viewed 0 0 (new h m) [] k (core-sound 0 0 (new h m) [] k (omega arith) (omega arith)) } in
+    kept-by-all isAdmitted sameSubframe (λ (t : State) (p : Page). feed t p .state) Seen seen-call (new h m) [] ps first .sees n some few

@@ -5,13 +5,13 @@ use native.Mathlib.Omega.{arith}
 use mathlib.Core.Path.{_≡_, refl, sym, subst}
 use mathlib.Core.List.{List, [], _∷_, _++_}
 use mathlib.Core.Bool.{Bool, true, false, cond, _&&_}
-use lib.ListN.{length, getD, set, length-set, replicate}
+use lib.ListN.{length, getD, set, length-set}
 use lib.Dec.{leb, eqb}
 use borrow.Author.Tests.{le-leb, le-ltb, eq-eqb, eqb-true, ltb-false, not-false}
 use Rattle.layouts.specs.Answer.{nothing, Check, refusal}
 use Rattle.layouts.proofs.Answers.{Passed, none-fails}
 use Rattle.runs.proofs.Basics.{and-true}
-use Rattle.subframes.specs.Subframe.{State, Page, Fed, wordOf, subframeOf, small, recordChecks, feedChecks, changed, used, offered, feed}
+use Rattle.subframes.specs.Subframe.{State, Page, Fed, wordOf, subframeOf, small, recordChecks, feedChecks, fresh, changed, used, offered, feed}
 use Rattle.subframes.proofs.Pages.{feed-refused, feed-admitted}
 
 pub record Sound (s : State) : Type 0 where
@@ -38,14 +38,20 @@ sound s e = passed-sound s [] (none-fails (recordChecks s) tt e)
 pub sound-passes : (s : State) → Sound s → (cs : List Check) → refusal (recordChecks s ++ cs) ≡ refusal cs
 unfolding refusal
 sound-passes s d cs =
-    rw (eq-eqb (length (s .hkroot)) 540 (d .h540), eq-eqb (length (s .mack)) 2160 (d .m2160), le-ltb 4095 (s .week) (d .week-fits), le-ltb 20159 (s .subframe) (d .subframe-fits), d .all-small)
+    rw (
+      eq-eqb (length (s .hkroot)) 540 (d .h540),
+      eq-eqb (length (s .mack)) 2160 (d .m2160),
+      le-ltb 4095 (s .week) (d .week-fits),
+      le-ltb 20159 (s .subframe) (d .subframe-fits),
+      d .all-small,
+    )
 
 pub sound-admitted : (s : State) → Sound s → 0 ≡ refusal (recordChecks s)
 unfolding refusal
 sound-admitted s d = sym (sound-passes s d [])
 
 -- It stays so.
-small-set : (l : List ℕ) (i v : ℕ) → v ≤ 15 → small l ≡ true → small (set l i v) ≡ true
+pub small-set : (l : List ℕ) (i v : ℕ) → v ≤ 15 → small l ≡ true → small (set l i v) ≡ true
 unfolding small
 small-set [] i v h e = refl
 small-set (n ∷ l) zero v h e = rw (le-leb v 15 h) (and-true (leb n 15) (small l) e .1)
@@ -55,7 +61,7 @@ sound-changed : (s : State) (week subframe : ℕ) → Sound s → week ≤ 4095 
 unfolding changed small
 sound-changed s week subframe d hw hs = go (eqb (s .week) week && eqb (s .subframe) subframe)
   where
-    go : (b : Bool) → Sound (cond b s (record { week = week; subframe = subframe; counts = replicate 36 0; hkroot = s .hkroot; mack = s .mack }))
+    go : (b : Bool) → Sound (cond b s (fresh s week subframe))
     go true = d
     go false = record { h540 = d .h540; m2160 = d .m2160; week-fits = hw; subframe-fits = hs; all-small = refl }
 
@@ -83,5 +89,6 @@ sound-fed s p d = go (refusal (feedChecks s p)) refl
         let week : p .week ≤ 4095 = ltb-false 4095 (p .week) (f .1 .1 .1 .1 .1 .1 .1 .1 .0) in
         let time : p .time ≤ 604799 = ltb-false 604799 (p .time) (f .1 .1 .1 .1 .1 .1 .1 .1 .1 .0) in
         subst (λ (x : Fed). Sound (x .state)) (feed-admitted s p e refl refl refl)
-        (sound-offered (changed s (p .week) (subframeOf (p .time))) (p .bytes) (p .satellite - 1) (wordOf (p .time)) (sound-changed s (p .week) (subframeOf (p .time)) d week (omega arith)) (omega arith))
+        (sound-offered (changed s (p .week) (subframeOf (p .time))) (p .bytes) (p .satellite - 1) (wordOf (p .time))
+        (sound-changed s (p .week) (subframeOf (p .time)) d week (omega arith)) (omega arith))
     go (suc q) e = subst (λ (x : Fed). Sound (x .state)) (feed-refused s p e (λ z. absurd (omega (arith, z)))) d

@@ -1,4 +1,4 @@
--- Two answers that meet a promise of the arguments or the lines of a page replay agree, with every lent byte.
+-- Two answers that meet a promise of `texts` agree, with every lent byte.
 -- Assumes nothing.
 use mathlib.Core.Path.{_≡_, refl, sym, ap, _∙_}
 use mathlib.Core.List.{List, [], _∷_}
@@ -7,8 +7,13 @@ use Rattle.layouts.specs.Answer.{Answer, refused, nothing, gives}
 use Rattle.layouts.specs.Meaning.{meaning-number}
 use Rattle.layouts.specs.declared.answer.Number.{Number}
 use Rattle.layouts.specs.declared.answer.Number.the-variants.{Value, Refused as NoNumber}
-use Rattle.texts.specs.Arguments.{meaning-arguments, ReadDecimal, ReadArguments}
-use Rattle.texts.specs.Lines.{Written, SubframeLine, DsmLine, TotalsLine, RefusedLine}
+use Rattle.layouts.specs.Agree.{AgreeWith}
+use Rattle.texts.specs.Agreed.{Agreed}
+use Rattle.texts.specs.Arguments.{meaning-arguments}
+use Rattle.texts.specs.Lines.{Written, wrote}
+use Rattle.texts.specs.Puts.{Puts, meaning-end, outcome}
+use Rattle.texts.specs.declared.put.End.{End}
+use Rattle.texts.specs.declared.put.End.the-variants.{At, Refused as NotPut}
 use Rattle.texts.specs.declared.arguments.Arguments.{Arguments}
 use Rattle.texts.specs.declared.arguments.Arguments.the-variants.{Refused, Given}
 
@@ -35,27 +40,42 @@ undo-arguments : (r : Arguments) → back-arguments (meaning-arguments r) ≡ r
 undo-arguments (Refused n) = refl
 undo-arguments (Given s w t) = refl
 
-pub decimal : (text : List ℕ) (r s : Number) → ReadDecimal text r → ReadDecimal text s → r ≡ s
-decimal text r s p q = sym (undo-number r) ∙ ap back-number (p ∙ sym q) ∙ undo-number s
+abbrev back-end : Answer → End
+back-end (refused n) = NotPut n
+back-end nothing = NotPut 0
+back-end (gives []) = NotPut 0
+back-end (gives (n ∷ l)) = At n
 
-pub read : (many : ℕ) (satellite week time : List ℕ) (r s : Arguments) → ReadArguments many satellite week time r → ReadArguments many satellite week time s → r ≡ s
-read many satellite week time r s p q = sym (undo-arguments r) ∙ ap back-arguments (p ∙ sym q) ∙ undo-arguments s
+undo-end : (r : End) → back-end (meaning-end r) ≡ r
+undo-end (At n) = refl
+undo-end (NotPut n) = refl
 
--- a line's count and its buffer
-abbrev is : ℕ → List ℕ → Written
-is n out = record { many = n; out = out }
+-- where a text ends, and its buffer; how many bytes a line has, and its buffer
+both-put : {p : Puts} → AgreeWith (λ (r : End) (x : List ℕ). outcome r x ≡ p)
+both-put r s x y p q =
+    let e = p ∙ sym q in
+    (sym (undo-end r) ∙ ap (λ (f : Puts). back-end (f .answer)) e ∙ undo-end s, ap (λ (f : Puts). f .out) e)
 
-both : {w : Written} {r s : ℕ} {x y : List ℕ} → is r x ≡ w → is s y ≡ w → (r ≡ s) × (x ≡ y)
-both p q = (ap (λ (f : Written). f .many) (p ∙ sym q), ap (λ (f : Written). f .out) (p ∙ sym q))
+both-written : {w : Written} → AgreeWith (λ (r : ℕ) (x : List ℕ). wrote r x ≡ w)
+both-written r s x y p q = (ap (λ (f : Written). f .many) (p ∙ sym q), ap (λ (f : Written). f .out) (p ∙ sym q))
 
-pub subframe-line : (out : List ℕ) (satellite week time r s : ℕ) (x y : List ℕ) → SubframeLine out satellite week time r x → SubframeLine out satellite week time s y → (r ≡ s) × (x ≡ y)
-subframe-line out satellite week time r s x y p q = both p q
-
-pub dsm-line : (out : List ℕ) (id bytes r s : ℕ) (x y : List ℕ) → DsmLine out id bytes r x → DsmLine out id bytes s y → (r ≡ s) × (x ≡ y)
-dsm-line out id bytes r s x y p q = both p q
-
-pub totals-line : (out : List ℕ) (pages skipped subframes dsms tail r s : ℕ) (x y : List ℕ) → TotalsLine out pages skipped subframes dsms tail r x → TotalsLine out pages skipped subframes dsms tail s y → (r ≡ s) × (x ≡ y)
-totals-line out pages skipped subframes dsms tail r s x y p q = both p q
-
-pub refused-line : (out : List ℕ) (n r s : ℕ) (x y : List ℕ) → RefusedLine out n r x → RefusedLine out n s y → (r ≡ s) × (x ≡ y)
-refused-line out n r s x y p q = both p q
+pub agreed : Agreed
+agreed =
+    record {
+      decimal = λ text r s p q. sym (undo-number r) ∙ ap back-number (p ∙ sym q) ∙ undo-number s;
+      read = λ many satellite week time r s p q. sym (undo-arguments r) ∙ ap back-arguments (p ∙ sym q) ∙ undo-arguments s;
+      words = λ out at words. both-put;
+      number = λ out at n. both-put;
+      hexadecimal = λ out at bytes. both-put;
+      newline = λ out at. both-put;
+      read-hexadecimal = λ out at text. both-put;
+      spells = λ text bytes r s p q. p ∙ sym q;
+      subframe = λ out satellite week time. both-written;
+      dsm = λ out id bytes. both-written;
+      totals = λ out pages skipped subframes dsms tail. both-written;
+      refused = λ out n. both-written;
+      subframe-at = λ out at satellite week time. both-put;
+      dsm-at = λ out at id bytes. both-put;
+      totals-at = λ out at pages skipped subframes dsms tail. both-put;
+      refused-at = λ out at n. both-put;
+    }

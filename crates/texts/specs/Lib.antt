@@ -1,4 +1,7 @@
+pub mod Agreed
 pub mod Arguments
 pub mod Decimal
+pub mod Hexadecimal
 pub mod Lines
-pub mod LinesInner
+pub mod Puts
+pub mod inner

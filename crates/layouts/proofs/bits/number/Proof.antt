@@ -13,7 +13,9 @@ use Rattle.layouts.proofs.bits.number.Statement.{statement}
 use Rattle.layouts.proofs.bits.number.Tie as tie
 
 returns : tie.Need-returns
-returns c = let a = c .before .before .args in stop _ _ _ _ tt (lt-ltb (8 * length (a .msg .now)) (a .start + a .width) (omega arith))
+returns c =
+    let a = c .before .before .before .args in
+    stop _ _ _ _ tt (lt-ltb (8 * length (a .msg .now)) (a .at .first + a .at .width) (omega arith))
 
 sub-if2 : tie.Need-sub-if2
 sub-if2 c = search needs
@@ -25,15 +27,18 @@ add-if2-2 : tie.Need-add-if2-2
 add-if2-2 c = search needs
 
 returns-2 : tie.Need-returns-2
-returns-2 c = let a = c .before .before .before .args in stop _ _ _ _ tt (lt-ltb (8 * length (a .msg .now)) (a .start + a .width) (omega arith))
+returns-2 c =
+    let a = c .before .before .before .before .before .before .args in
+    stop _ _ _ _ tt (lt-ltb (8 * length (a .msg .now)) (a .at .first + a .at .width) (omega arith))
 
 long-requires : tie.Need-long-requires
 long-requires c κs = search needs
 
 returns-3 : tie.Need-returns-3
 returns-3 c =
-    let a = c .before .before .before .before .args in
-    pass _ _ _ _ (le-ltb (8 * length (a .msg .now)) (a .start + a .width) (omega arith)) (done _ (ap (λ (n : ℕ). gives (n ∷ [])) (c .long .ensures)))
+    let a = c .before .before .before .before .before .before .before .args in
+    pass _ _ _ _ (le-ltb (8 * length (a .msg .now)) (a .at .first + a .at .width) (omega arith))
+    (done _ (ap (λ (n : ℕ). gives (n ∷ [])) (c .long .ensures)))
 
 pub number-spec : {M : Type 1} → statement M
 number-spec =

@@ -38,7 +38,7 @@ shl-result c = search needs
 sub-result-3 : tie.Need-sub-result-3
 sub-result-3 c =
     let w : ℕ = c .before .before .args .width in
-    subst⁻¹ (λ (x : ℕ). 1 ≤ x) (one-shl w (omega arith)) (pow-pos w)
+    subst⁻¹ (λ (x : ℕ). 1 ≤ x) (one-shl 64 w (omega arith)) (pow-pos w)
 
 returns : tie.Need-returns
 returns c =
@@ -48,7 +48,7 @@ returns c =
     let x : ℕ = (a .before + a .width + 7) / 8 * 8 - a .before - a .width in
     let acc : ℕ = c .bytes .result in
     let whole : acc ≡ field l f (a .before + a .width + x) = c .bytes .ensures ∙ ap (λ (n : ℕ). field l f n) (omega arith) in
-    ap (λ (n : ℕ). bitAnd (acc / 2 ^ x) (n - 1)) (one-shl (a .width) (omega arith))
+    ap (λ (n : ℕ). bitAnd (acc / 2 ^ x) (n - 1)) (one-shl 64 (a .width) (omega arith))
     ∙ and-mask (acc / 2 ^ x) (a .width)
     ∙ ap (λ (n : ℕ). n / 2 ^ x % 2 ^ a .width) whole
     ∙ field-mid l f (a .before) (a .width) x

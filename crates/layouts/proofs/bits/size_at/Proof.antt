@@ -4,7 +4,7 @@ use Prim.Native.Nat.{ℕ}
 use lib.ListN.{getD}
 use native.Mathlib.Omega.{arith}
 use Rattle.layouts.specs.Bits.{row}
-use Rattle.layouts.proofs.Readers.{read-lt, size-given, size-reserved, size-refused}
+use Rattle.layouts.proofs.Readers.{half-byte, size-given, size-reserved, size-refused}
 use borrow.Author.Needs.{needs}
 use Rattle.layouts.proofs.bits.size_at.Statement.{statement}
 use Rattle.layouts.proofs.bits.size_at.Tie as tie
@@ -18,15 +18,18 @@ enum-known-n c = search needs
 enum-known-v : tie.Need-enum-known-v
 enum-known-v c = search needs
 
+-- the code of the table is below 16
 mul-size : tie.Need-mul-size
 mul-size c =
-    let a = c .before .before .before .before .before .args in
-    omega (arith, read-lt (row "" (a .start) 4) (a .msg .now) (c .before .before .before .number .ensures) (c .before .v .given .1))
+    let d = c .before .before .before in
+    let a = d .before .before .args in
+    omega (arith, half-byte (row "" (a .at .first) (a .at .width)) (a .msg .now) (d .number .ensures) (c .before .v .given .1) (d .before .before .pre))
 
 array-read-size : tie.Need-array-read-size
 array-read-size c =
-    let a = c .before .before .before .before .before .args in
-    omega (arith, read-lt (row "" (a .start) 4) (a .msg .now) (c .before .before .before .number .ensures) (c .before .v .given .1))
+    let d = c .before .before .before in
+    let a = d .before .before .args in
+    omega (arith, half-byte (row "" (a .at .first) (a .at .width)) (a .msg .now) (d .number .ensures) (c .before .v .given .1) (d .before .before .pre))
 
 returns : tie.Need-returns
 returns c = search size-reserved
@@ -39,8 +42,9 @@ returns-2 c = search size-refused
 
 returns-3 : tie.Need-returns-3
 returns-3 c =
-    let a = c .before .before .before .before .before .before .args in
-    size-given (row "" (a .start) 4) (a .msg .now) (c .before .before .before .before .number .ensures) (c .before .before .v .given .1)
+    let d = c .before .before .before .before in
+    let a = d .before .before .args in
+    size-given (row "" (a .at .first) (a .at .width)) (a .msg .now) (d .number .ensures) (c .before .before .v .given .1)
     (λ (k : ℕ). getD (a .t3) k 0) (c .if1 .left)
 
 pub size-at-spec : {M : Type 1} → statement M

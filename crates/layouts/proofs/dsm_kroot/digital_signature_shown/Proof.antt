@@ -16,14 +16,18 @@ enum-known-first : tie.Need-enum-known-first
 enum-known-first c = search needs
 
 add-start : tie.Need-add-start
-add-start c = omega (arith, key-ends (c .before .before .before .before .before .args .msg .now) (c .before .before .before .kroot-shown .ensures) (c .before .first .given .1))
+add-start c =
+    let k = c .before .before .before in
+    omega (arith, key-ends (k .before .before .args .msg .now) (k .kroot-shown .ensures) (c .before .first .given .1))
 
 sub-signature-length : tie.Need-sub-signature-length
 sub-signature-length c = search key-ends
 
 signature-length-requires : tie.Need-signature-length-requires
 signature-length-requires c κs =
-    omega (arith, key-long (c .before .before .before .before .before .args .msg .now) (c .before .before .before .kroot-shown .ensures) (c .before .first .given .1), key-few (c .before .before .before .before .before .args .msg .now))
+    let k = c .before .before .before in
+    let m = k .before .before .args .msg .now in
+    omega (arith, key-long m (k .kroot-shown .ensures) (c .before .first .given .1), key-few m)
 
 returns : tie.Need-returns
 returns c = search signature-none

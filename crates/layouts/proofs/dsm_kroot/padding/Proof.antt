@@ -17,7 +17,8 @@ shown-requires : tie.Need-shown-requires
 unfolding paddingPart
 shown-requires c κs =
     let m = c .before .before .args .msg .now in
-    inside-part (c .padding-shown .result) m (13 + keyBytes m + signatureBytes m) (length m - (13 + keyBytes m + signatureBytes m)) (signatureChecks m) tt (c .padding-shown .ensures)
+    let first = 13 + keyBytes m + signatureBytes m in
+    inside-part (c .padding-shown .result) m first (length m - first) (signatureChecks m) tt (c .padding-shown .ensures)
 
 returns : tie.Need-returns
 returns c = c .shown .ensures ∙ ap (λ (a : Answer). shown (c .before .before .before .args .msg .now) a) (c .before .padding-shown .ensures)

@@ -16,7 +16,9 @@ enum-known-first : tie.Need-enum-known-first
 enum-known-first c = search needs
 
 add-start : tie.Need-add-start
-add-start c = omega (arith, sig-ends (c .before .before .before .before .before .args .msg .now) (c .before .before .before .digital-signature-shown .ensures) (c .before .first .given .1))
+add-start c =
+    let d = c .before .before .before in
+    omega (arith, sig-ends (d .before .before .args .msg .now) (d .digital-signature-shown .ensures) (c .before .first .given .1))
 
 sub-within : tie.Need-sub-within
 sub-within c = search sig-ends

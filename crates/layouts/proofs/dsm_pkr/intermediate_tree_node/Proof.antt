@@ -19,13 +19,13 @@ add-if2 : tie.Need-add-if2
 add-if2 c = search needs
 
 returns-2 : tie.Need-returns-2
-returns-2 c = copied-refused 32 (c .before .before .before .args .msg .now) (search node-missing)
+returns-2 c = copied-refused 32 (c .before .before .before .before .before .args .msg .now) (search node-missing)
 
 node-at-requires : tie.Need-node-at-requires
 node-at-requires c κs = search needs
 
 returns-3 : tie.Need-returns-3
-returns-3 c = copied-bytes 32 (c .before .before .before .before .args .msg .now) (search node-there) (c .node-at .ensures)
+returns-3 c = copied-bytes 32 (c .before .before .before .before .before .before .args .msg .now) (search node-there) (c .node-at .ensures)
 
 pub intermediate-tree-node-spec : {M : Type 1} → statement M
 intermediate-tree-node-spec =

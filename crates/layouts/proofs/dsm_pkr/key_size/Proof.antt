@@ -17,7 +17,9 @@ enum-known-kind : tie.Need-enum-known-kind
 enum-known-kind c = search needs
 
 blocks-requires : tie.Need-blocks-requires
-blocks-requires c κs = omega (arith, type-read (c .before .before .before .before .before .args .msg .now) (c .before .before .before .new-public-key-type-number .ensures) (c .before .kind .given .1))
+blocks-requires c κs =
+    let t = c .before .before .before in
+    omega (arith, type-read (t .before .before .args .msg .now) (t .new-public-key-type-number .ensures) (c .before .kind .given .1))
 
 key-length-requires : tie.Need-key-length-requires
 key-length-requires c κs = omega (arith, c .blocks2 .ensures, blocks-few (c .before .before .before .before .before .before .args .msg .now))

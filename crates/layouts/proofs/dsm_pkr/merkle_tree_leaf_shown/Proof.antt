@@ -16,7 +16,10 @@ enum-known-size : tie.Need-enum-known-size
 enum-known-size c = search needs
 
 add-within : tie.Need-add-within
-add-within c = omega (arith, key-long (c .before .before .before .before .before .args .msg .now) (c .before .before .before .key-size .ensures) (c .before .size .given .1), key-few (c .before .before .before .before .before .args .msg .now))
+add-within c =
+    let d = c .before .before .before .before in
+    let m = d .before .before .args .msg .now in
+    omega (arith, key-long m (d .key-size .ensures) (c .before .before .size .given .1), key-few m)
 
 within-requires : tie.Need-within-requires
 within-requires c κs = search needs

@@ -16,13 +16,19 @@ enum-known-size : tie.Need-enum-known-size
 enum-known-size c = search needs
 
 blocks-requires : tie.Need-blocks-requires
-blocks-requires c κs = omega (arith, type-there (c .before .before .before .before .before .args .msg .now) (c .before .before .before .key-size .ensures) (c .before .size .given .1))
+blocks-requires c κs =
+    let k = c .before .before .before in
+    omega (arith, type-there (k .before .before .args .msg .now) (k .key-size .ensures) (c .before .size .given .1))
 
 returns : tie.Need-returns
 returns c = search padding-uncounted
 
 add-start : tie.Need-add-start
-add-start c = omega (arith, key-long (c .before .before .before .before .before .before .before .args .msg .now) (c .before .before .before .before .before .key-size .ensures) (c .before .before .before .size .given .1), key-few (c .before .before .before .before .before .before .before .args .msg .now))
+add-start c =
+    let s = c .before .before in
+    let k = s .before .before .before in
+    let m = k .before .before .args .msg .now in
+    omega (arith, key-long m (k .key-size .ensures) (s .before .size .given .1), key-few m)
 
 mul-end : tie.Need-mul-end
 mul-end c = omega (arith, c .before .blocks2 .ensures, blocks-few (c .before .before .before .before .before .before .before .args .msg .now))

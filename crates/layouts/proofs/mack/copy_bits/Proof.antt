@@ -12,7 +12,8 @@ use Rattle.layouts.proofs.mack.copy_bits.Statement.{statement}
 use Rattle.layouts.proofs.mack.copy_bits.Tie as tie
 
 abbrev Inv-loop : tie.InvT-loop
-Inv-loop msg start out₀ first before i₀ out i = (i ≤ length out₀) × (length out ≡ length out₀) × (out ≡ take i (bytesFrom msg start (length out₀)) ++ drop i out₀)
+Inv-loop msg start out₀ first before i₀ out i =
+    (i ≤ length out₀) × (length out ≡ length out₀) × (out ≡ take i (bytesFrom msg start (length out₀)) ++ drop i out₀)
 
 abbrev μ-loop : tie.MeasureT-loop
 μ-loop msg start out₀ first before i₀ out i = length out₀ - i
@@ -42,7 +43,8 @@ loop-again c =
     let place : 8 * (a .start / 8 + h .i) + a .start % 8 ≡ a .start + 8 * h .i = omega arith in (
       omega arith,
       length-set (h .out) (h .i) (c .byte-at .result) ∙ h .inv .1,
-      key-turn (a .msg .now) (a .out .now) (h .out) (a .start) (h .i) (h .inv .2) (omega arith) (c .byte-at .ensures ∙ ap (λ (n : ℕ). field (a .msg .now) n 8) place),
+      key-turn (a .msg .now) (a .out .now) (h .out) (a .start) (h .i) (h .inv .2) (omega arith)
+          (c .byte-at .ensures ∙ ap (λ (n : ℕ). field (a .msg .now) n 8) place),
     )
 
 same-length : tie.Need-same-length Inv-loop μ-loop

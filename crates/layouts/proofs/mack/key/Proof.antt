@@ -1,51 +1,69 @@
 -- `mack::key`: each check, in its order, then the copy.
 -- Assumes nothing.
-use Prim.Native.Nat.{_≤_}
-use Prim.Native.Nat.{_+_, _*_}
+use Prim.Native.Nat.{_+_, _*_, _≤_}
 use native.Mathlib.Omega.{arith}
-use Rattle.layouts.proofs.Tags.{key-refused, key-sizes, key-sixty, key-fits, key-length, key-done}
+use Rattle.layouts.proofs.Tags.{Good, key-refused, key-sizes, key-sixty, key-fits, key-length, key-done}
 use borrow.Author.Needs.{needs}
 use Rattle.layouts.proofs.mack.key.Statement.{statement}
 use Rattle.layouts.proofs.mack.key.Tie as tie
+
+-- the sizes are listed, and the key ends with the message at the latest
+sizes : (c : tie.Else1) → let a = c .before .before .before .before .args in Good (a .key-size) (a .tag-size)
+sizes c =
+    let a = c .before .before .before .before .args in
+    key-sizes (a .msg .now) (a .key-size) (a .tag-size) (a .out .now) (c .before .refuses .ensures) (c .if1 .left)
+
+fits : (c : tie.After-tags) → let a = c .before .before .before .before .before .before .args in
+    c .tags .result * (a .tag-size + 16) + a .key-size ≤ 480
+fits c =
+    let a = c .before .before .before .before .before .before .args in
+    rw (c .tags .ensures) (key-fits (a .key-size) (a .tag-size) (sizes (c .before .before)))
 
 refuses-requires : tie.Need-refuses-requires
 refuses-requires c κs = search needs
 
 returns : tie.Need-returns
-returns c = let a = c .before .before .before .before .args in key-refused (a .msg .now) (a .key-size) (a .tag-size) (a .out .now) (c .before .refuses .ensures) (c .if1 .taken)
+returns c =
+    let a = c .before .before .before .before .args in
+    key-refused (a .msg .now) (a .key-size) (a .tag-size) (a .out .now) (c .before .refuses .ensures) (c .if1 .taken)
 
 returns-2 : tie.Need-returns-2
-returns-2 c = let a = c .before .before .before .before .before .args in key-length (a .msg .now) (a .key-size) (a .tag-size) (a .out .now) (c .before .before .refuses .ensures) (c .before .if1 .left) (c .if2 .taken)
+returns-2 c =
+    let e = c .before in
+    let a = e .before .before .before .before .args in
+    key-length (a .msg .now) (a .key-size) (a .tag-size) (a .out .now) (e .before .refuses .ensures) (e .if1 .left) (c .if2 .taken)
 
 tags-requires : tie.Need-tags-requires
-tags-requires c κs =
-    let a = c .before .before .before .before .before .args in
-    let g = key-sizes (a .msg .now) (a .key-size) (a .tag-size) (a .out .now) (c .before .before .refuses .ensures) (c .before .if1 .left) in (g .key-few, g .tag-few)
+tags-requires c κs = let g = sizes (c .before) in (g .key-few, g .tag-few)
 
 add-copy-bits : tie.Need-add-copy-bits
-add-copy-bits c =
-    let a = c .before .before .before .before .before .before .args in
-    omega (arith, key-sizes (a .msg .now) (a .key-size) (a .tag-size) (a .out .now) (c .before .before .before .refuses .ensures) (c .before .before .if1 .left) .tag-few)
+add-copy-bits c = omega (arith, sizes (c .before .before .before) .tag-few)
 
 mul-copy-bits : tie.Need-mul-copy-bits
-mul-copy-bits c =
-    let a = c .before .before .before .before .before .before .args in
-    let f : c .tags .result * (a .tag-size + 16) + a .key-size ≤ 480 = rw (c .tags .ensures) (key-fits (a .key-size) (a .tag-size) (key-sizes (a .msg .now) (a .key-size) (a .tag-size) (a .out .now) (c .before .before .before .refuses .ensures) (c .before .before .if1 .left))) in
-    omega arith
+mul-copy-bits c = omega (arith, fits (c .before))
 
 copy-bits-requires : tie.Need-copy-bits-requires
 copy-bits-requires c κs =
-    let a = c .before .before .before .before .before .before .before .args in
-    let f : c .before .tags .result * (a .tag-size + 16) + a .key-size ≤ 480 = rw (c .before .tags .ensures) (key-fits (a .key-size) (a .tag-size) (key-sizes (a .msg .now) (a .key-size) (a .tag-size) (a .out .now) (c .before .before .before .before .refuses .ensures) (c .before .before .before .if1 .left))) in
-    omega (arith, c .before .before .if2 .left, key-sixty (a .msg .now) (a .key-size) (a .tag-size) (a .out .now) (c .before .before .before .before .refuses .ensures) (c .before .before .before .if1 .left))
+    let t = c .before .before in
+    let e = t .before .before in
+    let a = e .before .before .before .before .args in
+    omega (
+      arith,
+      t .before .if2 .left,
+      fits t,
+      key-sixty (a .msg .now) (a .key-size) (a .tag-size) (a .out .now) (e .before .refuses .ensures) (e .if1 .left),
+    )
 
 same-length : tie.Need-same-length
 same-length c = search needs
 
 returns-3 : tie.Need-returns-3
 returns-3 c =
-    let a = c .before .before .before .before .before .before .before .before .before .before .args in
-    key-done (a .msg .now) (a .key-size) (a .tag-size) (a .out .now) (c .before .before .before .before .before .before .before .refuses .ensures) (c .before .before .before .before .before .before .if1 .left) (c .before .before .before .before .before .if2 .left) (c .before .before .before .before .tags .ensures) (c .before .before .copy-bits .ensures)
+    let t = c .before .before .before .before .before in
+    let e = t .before .before in
+    let a = e .before .before .before .before .args in
+    key-done (a .msg .now) (a .key-size) (a .tag-size) (a .out .now) (e .before .refuses .ensures) (e .if1 .left) (t .before .if2 .left)
+    (t .tags .ensures) (c .before .before .copy-bits .ensures)
 
 pub key-spec : {M : Type 1} → statement M
 key-spec =

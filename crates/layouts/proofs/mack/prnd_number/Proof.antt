@@ -1,9 +1,7 @@
 -- `mack::prnd_number`: the field at its place.
 -- Assumes nothing.
 use native.Mathlib.Omega.{arith}
-use Prim.Native.Nat.{_+_, _*_}
-use Rattle.layouts.specs.Mack.{bytesOf, tagChecks}
-use Rattle.layouts.proofs.Tags.{tag-room, read-at}
+use Rattle.layouts.proofs.Tags.{tag-room, read-info}
 use borrow.Author.Needs.{needs}
 use Rattle.layouts.proofs.mack.prnd_number.Statement.{statement}
 use Rattle.layouts.proofs.mack.prnd_number.Tie as tie
@@ -17,9 +15,7 @@ info-at-requires c κs =
     (omega arith, λ z. tag-room (a .msg .now) (a .key-size) (a .tag-size) (a .n) (c .refuses-tag .ensures) z)
 
 returns : tie.Need-returns
-returns c =
-    let a = c .before .before .before .args in
-    read-at (a .msg .now) 8 (tagChecks (a .msg .now) (bytesOf (a .key-size)) (a .tag-size) (a .n)) (a .n * (a .tag-size + 16) + a .tag-size + 0) (a .n * (a .tag-size + 16) + a .tag-size) (c .before .refuses-tag .ensures) (omega arith) (c .info-at .ensures)
+returns c = search read-info
 
 pub prnd-number-spec : {M : Type 1} → statement M
 prnd-number-spec = tie.close (tie.spec refuses-tag-requires info-at-requires returns)

@@ -1,9 +1,6 @@
 -- `mack::tag`: the field at its place.
 -- Assumes nothing.
-use native.Mathlib.Omega.{arith}
-use Prim.Native.Nat.{_+_, _*_}
-use Rattle.layouts.specs.Mack.{bytesOf, tagChecks}
-use Rattle.layouts.proofs.Tags.{tag-room, read-at}
+use Rattle.layouts.proofs.Tags.{tag-room, read-tag}
 use borrow.Author.Needs.{needs}
 use Rattle.layouts.proofs.mack.tag.Statement.{statement}
 use Rattle.layouts.proofs.mack.tag.Tie as tie
@@ -17,9 +14,7 @@ tag-at-requires c κs =
     λ z. tag-room (a .msg .now) (a .key-size) (a .tag-size) (a .n) (c .refuses-tag .ensures) z
 
 returns : tie.Need-returns
-returns c =
-    let a = c .before .before .before .args in
-    read-at (a .msg .now) (a .tag-size) (tagChecks (a .msg .now) (bytesOf (a .key-size)) (a .tag-size) (a .n)) (a .n * (a .tag-size + 16)) (a .n * (a .tag-size + 16)) (c .before .refuses-tag .ensures) (omega arith) (c .tag-at .ensures)
+returns c = search read-tag
 
 pub tag-spec : {M : Type 1} → statement M
 tag-spec = tie.close (tie.spec refuses-tag-requires tag-at-requires returns)

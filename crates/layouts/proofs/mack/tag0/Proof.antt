@@ -1,9 +1,6 @@
 -- `mack::tag0`: the field at its place.
 -- Assumes nothing.
-use native.Mathlib.Omega.{arith}
-use Prim.Native.Nat.{_+_, _*_}
-use Rattle.layouts.specs.Mack.{bytesOf, mackChecks}
-use Rattle.layouts.proofs.Tags.{header-room, read-at}
+use Rattle.layouts.proofs.Tags.{header-room, read-tag0}
 use borrow.Author.Needs.{needs}
 use Rattle.layouts.proofs.mack.tag0.Statement.{statement}
 use Rattle.layouts.proofs.mack.tag0.Tie as tie
@@ -14,12 +11,10 @@ refuses-requires c κs = search needs
 tag-at-requires : tie.Need-tag-at-requires
 tag-at-requires c κs =
     let a = c .before .before .args in
-    λ z. header-room (a .msg .now) (a .key-size) (a .tag-size) (0) (c .refuses .ensures) z
+    λ z. header-room (a .msg .now) (a .key-size) (a .tag-size) 0 (c .refuses .ensures) z
 
 returns : tie.Need-returns
-returns c =
-    let a = c .before .before .before .args in
-    read-at (a .msg .now) (a .tag-size) (mackChecks (a .msg .now) (bytesOf (a .key-size)) (a .tag-size)) (0 * (a .tag-size + 16)) 0 (c .before .refuses .ensures) (omega arith) (c .tag-at .ensures)
+returns c = search read-tag0
 
 pub tag0-spec : {M : Type 1} → statement M
 tag0-spec = tie.close (tie.spec refuses-requires tag-at-requires returns)

@@ -21,7 +21,11 @@ enum-told-3 : tie.Need-enum-told-3
 enum-told-3 c = search needs
 
 keep-requires : tie.Need-keep-requires
-keep-requires c κs = let a = c .before .before .before .before .before .before .before .before .before .before .args in let t = c .before .before .before .before .before .take in let r = count-rises (a .counts .now) (a .hkroot .now) (a .mack .now) (a .page .now) (a .i) (a .word) (t .result) (t .ensures) (search needs) (search needs) in (search needs, search needs, search needs, search needs, search needs, r .0, r .1)
+keep-requires c κs = let a = c .before .before .before .before .before .before .before .before .before .before .args in
+    let t = c .before .before .before .before .before .take in
+    let rises = count-rises (a .counts .now) (a .hkroot .now) (a .mack .now) (a .page .now) (a .i) (a .word) (t .result) (t .ensures) in
+    let r = rises (search needs) (search needs) in
+    (search needs, search needs, search needs, search needs, search needs, r .0, r .1)
 
 returns : tie.Need-returns
 returns c = search count-refuses

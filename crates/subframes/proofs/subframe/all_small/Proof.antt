@@ -32,16 +32,23 @@ joined-requires : tie.Need-joined-requires Inv-loop μ-loop
 joined-requires c κs = search needs
 
 returns : tie.Need-returns Inv-loop μ-loop
-returns c = let l = c .before .before .args .t1 in let h : length l ≡ 36 = search needs in first-stop l (omega arith) (c .before .joined .ensures) (c .if1 .taken)
+returns c = let l = c .before .before .args .t1 in
+    let h : length l ≡ 36 = search needs in
+    first-stop l (omega arith) (c .before .joined .ensures) (c .if1 .taken)
 
 loop-holds : tie.Need-loop-holds Inv-loop μ-loop
-loop-holds c = let l = c .before .before .args .t1 in let h : length l ≡ 36 = search needs in (omega arith, refl, first-go l (omega arith) (c .before .joined .ensures) (c .if1 .left))
+loop-holds c = let l = c .before .before .args .t1 in
+    let h : length l ≡ 36 = search needs in
+    (omega arith, refl, first-go l (omega arith) (c .before .joined .ensures) (c .if1 .left))
 
 eight-small-requires : tie.Need-eight-small-requires Inv-loop μ-loop
 eight-small-requires c κs = omega arith
 
 returns-2 : tie.Need-returns-2 Inv-loop μ-loop
-returns-2 c = let l = c .before .before .before .before .before .before .args .t1 in let h : length l ≡ 36 = search needs in small-stop l (c .before .before .before .loop .i) (omega arith) (c .before .eight-small .ensures) (c .before .before .before .loop .inv .2) (c .if2 .taken)
+returns-2 c = let l = c .before .before .before .before .before .before .args .t1 in
+    let h : length l ≡ 36 = search needs in
+    let b = c .before .before .before .loop in
+    small-stop l (b .i) (omega arith) (c .before .eight-small .ensures) (b .inv .2) (c .if2 .taken)
 
 add-i : tie.Need-add-i Inv-loop μ-loop
 add-i c = omega arith
@@ -50,10 +57,15 @@ loop-less : tie.Need-loop-less Inv-loop μ-loop
 loop-less c = omega arith
 
 loop-again : tie.Need-loop-again Inv-loop μ-loop
-loop-again c = let l = c .before .before .before .before .before .before .args .t1 in let h : length l ≡ 36 = search needs in (omega arith, omega arith, small-go l (c .before .before .before .loop .i) (omega arith) (c .before .eight-small .ensures) (c .before .before .before .loop .inv .2) (c .if2 .left))
+loop-again c = let l = c .before .before .before .before .before .before .args .t1 in
+    let h : length l ≡ 36 = search needs in
+    let b = c .before .before .before .loop in
+    (omega arith, omega arith, small-go l (b .i) (omega arith) (c .before .eight-small .ensures) (b .inv .2) (c .if2 .left))
 
 returns-3 : tie.Need-returns-3 Inv-loop μ-loop
-returns-3 c = let l = c .before .before .before .before .args .t1 in let h : length l ≡ 36 = search needs in small-end l (c .before .loop .i) (omega arith) (c .before .loop .inv .2)
+returns-3 c = let l = c .before .before .before .before .args .t1 in
+    let h : length l ≡ 36 = search needs in
+    small-end l (c .before .loop .i) (omega arith) (c .before .loop .inv .2)
 
 pub all-small-spec : {M : Type 1} → statement M
 all-small-spec =

@@ -1,11 +1,19 @@
 -- `subframe::feed`: the refusals, then the page at its counts.
 -- Assumes nothing.
 use Rattle.subframes.proofs.Pages.{fine, feed-refused, fed-whole}
-use Rattle.subframes.specs.SubframePromises.{state}
+use Rattle.subframes.specs.SubframePromises.{state, call}
+use Prim.Native.Nat.{_≤_}
 use native.Mathlib.Omega.{arith}
 use borrow.Author.Needs.{needs}
 use Rattle.subframes.proofs.subframe.feed.Statement.{statement}
 use Rattle.subframes.proofs.subframe.feed.Tie as tie
+
+-- of a page that is not refused
+in-week : (c : tie.Else1) → c .before .before .before .before .before .before .before .args .time ≤ 604799
+in-week c =
+    let a = c .before .before .before .before .before .before .before .args in
+    let p = call (a .page .now) (a .satellite) (a .week) (a .time) in
+    fine (state (a .collector) (a .hkroot .now) (a .mack .now)) p (c .before .refuses .ensures) (c .if1 .left) .in-week
 
 refuses-requires : tie.Need-refuses-requires
 refuses-requires c κs = search needs
@@ -23,7 +31,7 @@ take-page-requires : tie.Need-take-page-requires
 take-page-requires c κs = search needs
 
 cast-subframe : tie.Need-cast-subframe
-cast-subframe c = let a = c .before .before .before .before .before .before .before .before .before .before .before .before .before .before .before .before .args in let s = state (a .collector) (a .hkroot .now) (a .mack .now) in let f = fine s (record { bytes = a .page .now; satellite = a .satellite; week = a .week; time = a .time }) (c .before .before .before .before .before .before .before .before .before .before .refuses .ensures) (c .before .before .before .before .before .before .before .before .before .if1 .left) in omega (arith, f .in-week)
+cast-subframe c = omega (arith, in-week (c .before .before .before .before .before .before .before .before .before))
 
 answer-of-requires : tie.Need-answer-of-requires
 answer-of-requires c κs = search needs

@@ -34,10 +34,15 @@ loop-less : tie.Need-loop-less Inv-loop μ-loop
 loop-less c = omega arith
 
 loop-again : tie.Need-loop-again Inv-loop μ-loop
-loop-again c = let a = c .before .before .before .args in let h = c .before .before .loop in (omega arith, copy-turn (a .bytes .now) (replicate 15 0) (h .message) (a .first) (h .i) (h .inv .1) (omega arith) (omega arith))
+loop-again c = let a = c .before .before .before .args in
+    let h = c .before .before .loop in
+    (omega arith, copy-turn (a .bytes .now) (replicate 15 0) (h .message) (a .first) (h .i) (h .inv .1) (omega arith) (omega arith))
 
 returns : tie.Need-returns Inv-loop μ-loop
-returns c = let a = c .before .before .args in let h = c .before .loop in let all : h .i ≡ 15 = omega arith in rw all at (h .inv .1) ∙ copy-all (drop (a .first) (a .bytes .now)) (replicate 15 0) 15 (omega arith)
+returns c = let a = c .before .before .args in
+    let h = c .before .loop in
+    let all : h .i ≡ 15 = omega arith in
+    rw all at (h .inv .1) ∙ copy-all (drop (a .first) (a .bytes .now)) (replicate 15 0) 15 (omega arith)
 
 pub message-at-spec : {M : Type 1} → statement M
 message-at-spec =

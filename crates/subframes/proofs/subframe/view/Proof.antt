@@ -12,19 +12,19 @@ enum-told : tie.Need-enum-told
 enum-told c = search needs
 
 part-requires : tie.Need-part-requires
-part-requires c κs = let a = c .before .before .before .before .before .args in hkroot-inside (a .collector) (a .hkroot .now) (a .mack .now) (a .message) (a .satellite) (c .before .before .view-shown .result) (c .before .before .view-shown .ensures) (search needs)
+part-requires c κs = search (hkroot-inside, needs)
 
 enum-told-2 : tie.Need-enum-told-2
 enum-told-2 c = search needs
 
 part-requires-2 : tie.Need-part-requires-2
-part-requires-2 c κs = let a = c .before .before .before .before .before .args in mack-inside (a .collector) (a .hkroot .now) (a .mack .now) (a .message) (a .satellite) (c .before .before .view-shown .result) (c .before .before .view-shown .ensures) (search needs)
+part-requires-2 c κs = search (mack-inside, needs)
 
 returns : tie.Need-returns
-returns c = let a = c .before .before .before .before .before .before .args in hkroot-part (a .collector) (a .hkroot .now) (a .mack .now) (a .message) (a .satellite) (c .before .before .before .view-shown .result) (c .before .before .before .view-shown .ensures) (search needs) (c .part .ensures)
+returns c = search (hkroot-part, needs)
 
 returns-2 : tie.Need-returns-2
-returns-2 c = let a = c .before .before .before .before .before .before .args in mack-part (a .collector) (a .hkroot .now) (a .mack .now) (a .message) (a .satellite) (c .before .before .before .view-shown .result) (c .before .before .before .view-shown .ensures) (search needs) (c .part2 .ensures)
+returns-2 c = search (mack-part, needs)
 
 pub view-spec : {M : Type 1} → statement M
 view-spec =

@@ -1,7 +1,6 @@
 -- `trace::feed_all`: the refusals, then the entries.
 -- Assumes nothing.
 use Rattle.subframes.proofs.Entries.{all-refused, all-asks, all-fed}
-use Rattle.subframes.specs.SubframePromises.{state}
 use borrow.Author.Needs.{needs}
 use Rattle.subframes.proofs.trace.feed_all.Statement.{statement}
 use Rattle.subframes.proofs.trace.feed_all.Tie as tie
@@ -16,10 +15,10 @@ same-length-2 : tie.Need-same-length-2
 same-length-2 c = search needs
 
 returns : tie.Need-returns
-returns c = let a = c .before .before .before .before .before .before .before .args in let s = state (a .collector) (a .hkroot .now) (a .mack .now) in all-refused s (a .trace .now) (c .before .trace-refuses .ensures) (c .if1 .taken)
+returns c = search all-refused
 
 feed-entries-requires : tie.Need-feed-entries-requires
-feed-entries-requires c κs = let a = c .before .before .before .before .before .before .before .before .before .args in let s = state (a .collector) (a .hkroot .now) (a .mack .now) in all-asks s (a .trace .now) (c .before .before .before .trace-refuses .ensures) (c .before .before .if1 .left)
+feed-entries-requires c κs = search all-asks
 
 same-length-3 : tie.Need-same-length-3
 same-length-3 c = search needs
@@ -28,7 +27,7 @@ same-length-4 : tie.Need-same-length-4
 same-length-4 c = search needs
 
 returns-2 : tie.Need-returns-2
-returns-2 c = let a = c .before .before .before .before .before .before .before .before .before .before .before .before .before .before .args in let s = state (a .collector) (a .hkroot .now) (a .mack .now) in all-fed s (a .trace .now) (c .before .before .before .before .before .before .before .before .trace-refuses .ensures) (c .before .before .before .before .before .before .before .if1 .left) (c .before .before .before .before .feed-entries .ensures)
+returns-2 c = search all-fed
 
 pub feed-all-spec : {M : Type 1} → statement M
 feed-all-spec =

@@ -4,20 +4,55 @@ use Prim.Native.Nat.{_-_}
 use mathlib.Core.Path.{sym, _∙_}
 use native.Mathlib.Omega.{arith}
 use borrow.Author.Needs.{needs}
-use Rattle.subframes.specs.PageInner.{stateOf}
+use Rattle.subframes.specs.inner.Page.{stateOf}
 use Rattle.subframes.specs.SubframePromises.{state}
-use Rattle.subframes.proofs.Entries.{Left, turn-first, turn-none, turn-ends, turn-asks, turn-time, turn-sound, turn-completes, turn-goes-on}
+use Rattle.subframes.proofs.Entries.{Left, Turn, Taken, turn-first, turn-none, turn-ends, turn-asks, turn-time, turn-sound, turn-completes, turn-goes-on}
 use Rattle.subframes.proofs.trace.feed_entries.Statement.{statement}
 use Rattle.subframes.proofs.trace.feed_entries.Tie as tie
 
 abbrev Inv-loop : tie.InvT-loop
-Inv-loop hkroot₀ mack₀ trace many week₀ subframe₀ counts₀ n₀ hkroot mack week subframe counts n = Left (stateOf week₀ subframe₀ counts₀ hkroot₀ mack₀) trace n (stateOf week subframe counts hkroot mack)
+Inv-loop hkroot₀ mack₀ trace many week₀ subframe₀ counts₀ n₀ hkroot mack week subframe counts n =
+    Left (stateOf week₀ subframe₀ counts₀ hkroot₀ mack₀) trace n (stateOf week subframe counts hkroot mack)
 
 abbrev μ-loop : tie.MeasureT-loop
 μ-loop hkroot₀ mack₀ trace many week₀ subframe₀ counts₀ n₀ hkroot mack week subframe counts n = many - n
 
+-- one turn, when its entry's number is known, and when its page was taken
+abbrev turn : tie.After-entry-refuses Inv-loop μ-loop → Turn
+turn c =
+    record {
+      s₀ = _;
+      s = _;
+      trace = _;
+      k = _;
+      e = c .before .entry-at .result;
+      q = c .entry-refuses .result;
+      left = c .before .before .before .loop .inv;
+      inside = c .before .before .loop-test .taken;
+      entry-is = c .before .entry-at .ensures;
+      number-is = c .entry-refuses .ensures;
+    }
+
+abbrev taken : tie.After-take-page Inv-loop μ-loop → Taken
+taken c =
+    let passed = c .before .before .before .before .before in
+    record {
+      turn = turn (passed .before);
+      passed = passed .if1 .left;
+      r = c .take-page .result;
+      counts = _;
+      hkroot = _;
+      mack = _;
+      fed = c .take-page .ensures;
+    }
+
+-- the turn that a later context is in
+abbrev then : tie.After-completes Inv-loop μ-loop → Taken
+then c = taken (c .before .before .before .before .before .before)
+
 loop-holds : tie.Need-loop-holds Inv-loop μ-loop
-loop-holds c = let a = c .before .before .before .before .args in let pre = c .before .before .before .before .pre in turn-first (state (a .collector) (a .hkroot .now) (a .mack .now)) (a .trace .now) pre
+loop-holds c = let b = c .before .before .before .before in
+    turn-first (state (b .args .collector) (b .args .hkroot .now) (b .args .mack .now)) (b .args .trace .now) (b .pre)
 
 entry-at-requires : tie.Need-entry-at-requires Inv-loop μ-loop
 entry-at-requires c κs = omega arith
@@ -32,13 +67,13 @@ fed-requires : tie.Need-fed-requires Inv-loop μ-loop
 fed-requires c κs = search needs
 
 same-length : tie.Need-same-length Inv-loop μ-loop
-same-length c = let d = c .before .before .before .before .before .before .loop .inv in omega (arith, d .fine .h540, d .first .h540)
+same-length c = let d = turn (c .before .before .before) .left in omega (arith, d .fine .h540, d .first .h540)
 
 same-length-2 : tie.Need-same-length-2 Inv-loop μ-loop
-same-length-2 c = let d = c .before .before .before .before .before .before .loop .inv in omega (arith, d .fine .m2160, d .first .m2160)
+same-length-2 c = let d = turn (c .before .before .before) .left in omega (arith, d .fine .m2160, d .first .m2160)
 
 returns : tie.Need-returns Inv-loop μ-loop
-returns c = let d = c .before .before .before .before .before .before .loop .inv in let e = c .before .before .before .before .entry-at .result in let h = c .before .before .before .before .before .loop-test .taken in let pe = c .before .before .before .before .entry-at .ensures in let eq = c .before .before .before .entry-refuses .ensures in let taken = c .before .before .if1 .taken in let ended = c .before .ended .ensures in turn-ends d e h pe eq taken ended (c .fed .ensures _ _)
+returns c = turn-ends (turn (c .before .before .before)) (c .before .before .if1 .taken) (c .before .ended .ensures) (c .fed .ensures _ _)
 
 mul-a : tie.Need-mul-a Inv-loop μ-loop
 mul-a c = omega arith
@@ -62,10 +97,10 @@ part-page-end : tie.Need-part-page-end Inv-loop μ-loop
 part-page-end c = omega arith
 
 take-page-requires : tie.Need-take-page-requires Inv-loop μ-loop
-take-page-requires c κs = let d = c .before .before .before .before .before .before .before .before .loop .inv in let e = c .before .before .before .before .before .before .entry-at .result in let h = c .before .before .before .before .before .before .before .loop-test .taken in let pe = c .before .before .before .before .before .before .entry-at .ensures in let eq = c .before .before .before .before .before .entry-refuses .ensures in let left = c .before .before .before .before .if1 .left in turn-asks d e h pe eq left
+take-page-requires c κs = let b = c .before .before .before .before in turn-asks (turn (b .before)) (b .if1 .left)
 
 cast-subframe : tie.Need-cast-subframe Inv-loop μ-loop
-cast-subframe c = let d = c .before .before .before .before .before .before .before .before .before .before .before .before .before .before .loop .inv in let e = c .before .before .before .before .before .before .before .before .before .before .before .before .entry-at .result in let h = c .before .before .before .before .before .before .before .before .before .before .before .before .before .loop-test .taken in let pe = c .before .before .before .before .before .before .before .before .before .before .before .before .entry-at .ensures in let eq = c .before .before .before .before .before .before .before .before .before .before .before .entry-refuses .ensures in let left = c .before .before .before .before .before .before .before .before .before .before .if1 .left in let t = turn-time d e h pe eq left in omega (arith, t)
+cast-subframe c = let w = taken (c .before .before .before .before .before) in omega (arith, turn-time (w .turn) (w .passed))
 
 add-n : tie.Need-add-n Inv-loop μ-loop
 add-n c = omega arith
@@ -80,19 +115,20 @@ fed-requires-2 : tie.Need-fed-requires-2 Inv-loop μ-loop
 fed-requires-2 c κs = search needs
 
 same-length-3 : tie.Need-same-length-3 Inv-loop μ-loop
-same-length-3 c = let d = c .before .before .before .before .before .before .before .before .before .before .before .before .before .before .before .before .before .before .loop .inv in let e = c .before .before .before .before .before .before .before .before .before .before .before .before .before .before .before .before .entry-at .result in let h = c .before .before .before .before .before .before .before .before .before .before .before .before .before .before .before .before .before .loop-test .taken in let pe = c .before .before .before .before .before .before .before .before .before .before .before .before .before .before .before .before .entry-at .ensures in let eq = c .before .before .before .before .before .before .before .before .before .before .before .before .before .before .before .entry-refuses .ensures in let left = c .before .before .before .before .before .before .before .before .before .before .before .before .before .before .if1 .left in let take = c .before .before .before .before .before .before .before .before .before .take-page in let t = turn-sound d e h pe eq left (take .result) (take .ensures) in omega (arith, t .h540, d .first .h540)
+same-length-3 c = let w = then (c .before .before .before) in omega (arith, turn-sound w .h540, w .turn .left .first .h540)
 
 same-length-4 : tie.Need-same-length-4 Inv-loop μ-loop
-same-length-4 c = let d = c .before .before .before .before .before .before .before .before .before .before .before .before .before .before .before .before .before .before .loop .inv in let e = c .before .before .before .before .before .before .before .before .before .before .before .before .before .before .before .before .entry-at .result in let h = c .before .before .before .before .before .before .before .before .before .before .before .before .before .before .before .before .before .loop-test .taken in let pe = c .before .before .before .before .before .before .before .before .before .before .before .before .before .before .before .before .entry-at .ensures in let eq = c .before .before .before .before .before .before .before .before .before .before .before .before .before .before .before .entry-refuses .ensures in let left = c .before .before .before .before .before .before .before .before .before .before .before .before .before .before .if1 .left in let take = c .before .before .before .before .before .before .before .before .before .take-page in let t = turn-sound d e h pe eq left (take .result) (take .ensures) in omega (arith, t .m2160, d .first .m2160)
+same-length-4 c = let w = then (c .before .before .before) in omega (arith, turn-sound w .m2160, w .turn .left .first .m2160)
 
 returns-2 : tie.Need-returns-2 Inv-loop μ-loop
-returns-2 c = let d = c .before .before .before .before .before .before .before .before .before .before .before .before .before .before .before .before .before .before .loop .inv in let e = c .before .before .before .before .before .before .before .before .before .before .before .before .before .before .before .before .entry-at .result in let h = c .before .before .before .before .before .before .before .before .before .before .before .before .before .before .before .before .before .loop-test .taken in let pe = c .before .before .before .before .before .before .before .before .before .before .before .before .before .before .before .before .entry-at .ensures in let eq = c .before .before .before .before .before .before .before .before .before .before .before .before .before .before .before .entry-refuses .ensures in let left = c .before .before .before .before .before .before .before .before .before .before .before .before .before .before .if1 .left in let take = c .before .before .before .before .before .before .before .before .before .take-page in let done = c .before .before .before .completes .ensures in let ans = c .before .answer-of .ensures in turn-completes d e h pe eq left (take .result) (take .ensures) (sym done ∙ c .before .before .if2 .taken) ans (c .fed2 .ensures _ _)
+returns-2 c = let b = c .before .before in
+    turn-completes (then (b .before)) (sym (b .before .completes .ensures) ∙ b .if2 .taken) (c .before .answer-of .ensures) (c .fed2 .ensures _ _)
 
 loop-less : tie.Need-loop-less Inv-loop μ-loop
 loop-less c = omega arith
 
 loop-again : tie.Need-loop-again Inv-loop μ-loop
-loop-again c = let d = c .before .before .before .before .before .before .before .before .before .before .before .before .before .before .before .before .loop .inv in let e = c .before .before .before .before .before .before .before .before .before .before .before .before .before .before .entry-at .result in let h = c .before .before .before .before .before .before .before .before .before .before .before .before .before .before .before .loop-test .taken in let pe = c .before .before .before .before .before .before .before .before .before .before .before .before .before .before .entry-at .ensures in let eq = c .before .before .before .before .before .before .before .before .before .before .before .before .before .entry-refuses .ensures in let left = c .before .before .before .before .before .before .before .before .before .before .before .before .if1 .left in let take = c .before .before .before .before .before .before .before .take-page in let done = c .before .completes .ensures in turn-goes-on d e h pe eq left (take .result) (take .ensures) (sym done ∙ c .if2 .left)
+loop-again c = turn-goes-on (then (c .before)) (sym (c .before .completes .ensures) ∙ c .if2 .left)
 
 fed-requires-3 : tie.Need-fed-requires-3 Inv-loop μ-loop
 fed-requires-3 c κs = search needs

@@ -30,7 +30,7 @@ is-digit-requires : tie.Need-is-digit-requires Inv-loop μ-loop
 is-digit-requires c κs = search needs
 
 returns-2 : tie.Need-returns-2 Inv-loop μ-loop
-returns-2 c = let h = c .before .before .before .before .loop in not-digit (c .before .before .before .before .before .before .before .args .text .now) (h .i) (omega arith) (c .before .is-digit .ensures) (c .if2 .taken)
+returns-2 c = search not-digit
 
 add-i : tie.Need-add-i Inv-loop μ-loop
 add-i c = omega arith
@@ -39,12 +39,10 @@ loop-less : tie.Need-loop-less Inv-loop μ-loop
 loop-less c = omega arith
 
 loop-again : tie.Need-loop-again Inv-loop μ-loop
-loop-again c =
-    let h = c .before .before .before .before .loop in
-    (omega arith, digits-more (c .before .before .before .before .before .before .before .args .text .now) (h .i) (omega arith) (h .inv .1) (c .before .is-digit .ensures) (c .if2 .left))
+loop-again c = (omega arith, search digits-more)
 
 returns-3 : tie.Need-returns-3 Inv-loop μ-loop
-returns-3 c = let h = c .before .loop in all-digits (c .before .before .before .before .args .text .now) (h .i) (c .before .before .if1 .left) (omega arith) (h .inv .1)
+returns-3 c = search all-digits
 
 pub is-decimal-spec : {M : Type 1} → statement M
 is-decimal-spec =

@@ -18,6 +18,14 @@ Inv-loop text n₀ i₀ n i = (i ≤ length text) × (n ≡ min (number (take i 
 abbrev μ-loop : tie.MeasureT-loop
 μ-loop text n₀ i₀ n i = length text - i
 
+-- this byte is a digit
+digit-here : (c : tie.After-wide Inv-loop μ-loop) → (48 ≤ c .wide .result) × (c .wide .result ≤ 57)
+digit-here c =
+    let h = c .before .before .before .loop in
+    let s = c .before .before .before .before .before in
+    let d = digit-at (s .args .text .now) (h .i) (s .pre) (omega arith) in
+    (omega (arith, d .0, c .wide .ensures), omega (arith, d .1, c .wide .ensures))
+
 loop-holds : tie.Need-loop-holds Inv-loop μ-loop
 loop-holds c = (omega arith, omega (arith, number-none (c .before .args .text .now)))
 
@@ -28,10 +36,10 @@ wide-requires : tie.Need-wide-requires Inv-loop μ-loop
 wide-requires c κs = search needs
 
 sub-one-more : tie.Need-sub-one-more Inv-loop μ-loop
-sub-one-more c = let h = c .before .before .before .loop in omega (arith, digit-at (c .before .before .before .before .before .args .text .now) (h .i) (c .before .before .before .before .before .pre) (omega arith), c .wide .ensures)
+sub-one-more c = omega (arith, digit-here c)
 
 one-more-requires : tie.Need-one-more-requires Inv-loop μ-loop
-one-more-requires c κs = let h = c .before .before .before .loop in omega (arith, digit-at (c .before .before .before .before .before .args .text .now) (h .i) (c .before .before .before .before .before .pre) (omega arith), c .wide .ensures)
+one-more-requires c κs = omega (arith, digit-here c)
 
 add-i : tie.Need-add-i Inv-loop μ-loop
 add-i c = omega arith
@@ -40,9 +48,7 @@ loop-less : tie.Need-loop-less Inv-loop μ-loop
 loop-less c = omega arith
 
 loop-again : tie.Need-loop-again Inv-loop μ-loop
-loop-again c =
-    let h = c .before .before .before .before .loop in
-    (omega arith, number-more (c .before .before .before .before .before .before .args .text .now) (h .i) (omega arith) (h .inv .1) (c .before .wide .ensures) (c .one-more .ensures))
+loop-again c = (omega arith, search number-more)
 
 returns : tie.Need-returns Inv-loop μ-loop
 returns c =

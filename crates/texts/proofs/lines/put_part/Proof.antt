@@ -11,19 +11,23 @@ put-words-requires : tie.Need-put-words-requires
 put-words-requires c κs = search needs
 
 put-number-requires : tie.Need-put-number-requires
-put-number-requires c κs = omega (arith, digits-few (c .before .before .before .before .before .before .before .args .n) (omega (arith, c .before .before .before .before .before .before .before .fits .n)), c .before .before .before .before .before .before .before .pre, c .before .before .before .put-words .ensures .1, c .before .before .before .put-words .kept .0)
+put-number-requires c κs =
+    let w = c .before .before .before in
+    let s = w .before .before .before .before in
+    omega (arith, digits-few (s .args .n) (omega (arith, s .fits .n)), s .pre, w .put-words .ensures .1, w .put-words .kept .0)
 
 same-length : tie.Need-same-length
 same-length c = search needs
 
 returns : tie.Need-returns
 returns c =
-    let a = c .before .before .before .before .before .before .before .before .before .before .args in
-    let most = c .before .before .before .before .before .before .before .before .before .before .fits .n in
-    let w = c .before .before .before .before .before .before .put-words in
-    let n = c .before .before .put-number in (
-      λ m s b. begun-part m s (a .words .now) (a .n) (c .before .before .before .before .before .before .before .before .before .before .pre) (omega arith) (w .ensures .0) (w .ensures .1) (n .ensures .0) (n .ensures .1) b,
-      omega (arith, digits-few (a .n) (omega arith), w .ensures .1, n .ensures .1),
+    let n = c .before .before .put-number in
+    let w = c .before .before .before .before .before .before in
+    let s = w .before .before .before .before in
+    let most = s .fits .n in
+    let e = w .put-words .ensures in (
+      λ m l b. begun-part m l (s .args .words .now) (s .args .n) (s .pre) (omega arith) (e .0) (e .1) (n .ensures .0) (n .ensures .1) b,
+      omega (arith, digits-few (s .args .n) (omega arith), e .1, n .ensures .1),
     )
 
 pub put-part-spec : {M : Type 1} → statement M

@@ -1,7 +1,6 @@
 -- `lines::refused`: the word and the number.
 -- Assumes nothing.
-use mathlib.Core.List.{[], _∷_}
-use Rattle.texts.specs.Lines.{_of_, bytes}
+use Rattle.texts.specs.Lines.{refusedParts, bytes}
 use Rattle.texts.proofs.Written.{begun-none, line-done}
 use borrow.Author.Needs.{needs}
 use Rattle.texts.proofs.lines.refused.Statement.{statement}
@@ -19,10 +18,11 @@ put-end-requires c κs = search needs
 returns : tie.Need-returns
 unfolding bytes
 returns c =
-    let a = c .before .before .before .before .before .before .before .args in
+    let p1 = c .before .before .before in
+    let a = p1 .before .before .before .before .args in
     let b0 = begun-none (a .out .now) in
-    let b1 = c .before .before .before .put-part .ensures .0 (a .out .now) _ b0 in
-    (line-done (a .out .now) ("refused " of a .n ∷ []) (c .put-end .ensures .0 (a .out .now) _ b1), c .put-end .ensures .1)
+    let b1 = p1 .put-part .ensures .0 (a .out .now) _ b0 in
+    (line-done (a .out .now) (refusedParts (a .n)) (c .put-end .ensures .0 (a .out .now) _ b1), c .put-end .ensures .1)
 
 pub refused-spec : {M : Type 1} → statement M
 refused-spec =

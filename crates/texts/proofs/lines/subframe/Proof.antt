@@ -1,7 +1,6 @@
 -- `lines::subframe`: its three parts, one after the other.
 -- Assumes nothing.
-use mathlib.Core.List.{[], _∷_}
-use Rattle.texts.specs.Lines.{_of_, bytes}
+use Rattle.texts.specs.Lines.{subframeParts, bytes}
 use Rattle.texts.proofs.Written.{begun-none, line-done}
 use borrow.Author.Needs.{needs}
 use Rattle.texts.proofs.lines.subframe.Statement.{statement}
@@ -31,12 +30,15 @@ put-end-requires c κs = search needs
 returns : tie.Need-returns
 unfolding bytes
 returns c =
-    let a = c .before .before .before .before .before .before .before .before .before .before .before .before .before .before .before .before .before .args in
+    let p3 = c .before .before .before in
+    let p2 = p3 .before .before .before .before .before in
+    let p1 = p2 .before .before .before .before .before in
+    let a = p1 .before .before .before .before .args in
     let b0 = begun-none (a .out .now) in
-    let b1 = c .before .before .before .before .before .before .before .before .before .before .before .before .before .put-part .ensures .0 (a .out .now) _ b0 in
-    let b2 = c .before .before .before .before .before .before .before .before .put-part2 .ensures .0 (a .out .now) _ b1 in
-    let b3 = c .before .before .before .put-part3 .ensures .0 (a .out .now) _ b2 in
-    (line-done (a .out .now) ("S " of a .satellite ∷ " " of a .week ∷ " " of a .time ∷ []) (c .put-end .ensures .0 (a .out .now) _ b3), c .put-end .ensures .1)
+    let b1 = p1 .put-part .ensures .0 (a .out .now) _ b0 in
+    let b2 = p2 .put-part2 .ensures .0 (a .out .now) _ b1 in
+    let b3 = p3 .put-part3 .ensures .0 (a .out .now) _ b2 in
+    (line-done (a .out .now) (subframeParts (a .satellite) (a .week) (a .time)) (c .put-end .ensures .0 (a .out .now) _ b3), c .put-end .ensures .1)
 
 pub subframe-spec : {M : Type 1} → statement M
 subframe-spec =

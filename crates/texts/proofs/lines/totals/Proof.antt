@@ -1,7 +1,6 @@
 -- `lines::totals`: its five parts, one after the other.
 -- Assumes nothing.
-use mathlib.Core.List.{[], _∷_}
-use Rattle.texts.specs.Lines.{_of_, bytes}
+use Rattle.texts.specs.Lines.{totalsParts, bytes}
 use Rattle.texts.proofs.Written.{begun-none, line-done}
 use borrow.Author.Needs.{needs}
 use Rattle.texts.proofs.lines.totals.Statement.{statement}
@@ -43,14 +42,21 @@ put-end-requires c κs = search needs
 returns : tie.Need-returns
 unfolding bytes
 returns c =
-    let a = c .before .before .before .before .before .before .before .before .before .before .before .before .before .before .before .before .before .before .before .before .before .before .before .before .before .before .before .args in
+    let p5 = c .before .before .before in
+    let p4 = p5 .before .before .before .before .before in
+    let p3 = p4 .before .before .before .before .before in
+    let p2 = p3 .before .before .before .before .before in
+    let p1 = p2 .before .before .before .before .before in
+    let a = p1 .before .before .before .before .args in
     let b0 = begun-none (a .out .now) in
-    let b1 = c .before .before .before .before .before .before .before .before .before .before .before .before .before .before .before .before .before .before .before .before .before .before .before .put-part .ensures .0 (a .out .now) _ b0 in
-    let b2 = c .before .before .before .before .before .before .before .before .before .before .before .before .before .before .before .before .before .before .put-part2 .ensures .0 (a .out .now) _ b1 in
-    let b3 = c .before .before .before .before .before .before .before .before .before .before .before .before .before .put-part3 .ensures .0 (a .out .now) _ b2 in
-    let b4 = c .before .before .before .before .before .before .before .before .put-part4 .ensures .0 (a .out .now) _ b3 in
-    let b5 = c .before .before .before .put-part5 .ensures .0 (a .out .now) _ b4 in
-    (line-done (a .out .now) ("pages " of a .pages ∷ " skipped " of a .skipped ∷ " subframes " of a .subframes ∷ " dsms " of a .dsms ∷ " tail " of a .tail ∷ []) (c .put-end .ensures .0 (a .out .now) _ b5), c .put-end .ensures .1)
+    let b1 = p1 .put-part .ensures .0 (a .out .now) _ b0 in
+    let b2 = p2 .put-part2 .ensures .0 (a .out .now) _ b1 in
+    let b3 = p3 .put-part3 .ensures .0 (a .out .now) _ b2 in
+    let b4 = p4 .put-part4 .ensures .0 (a .out .now) _ b3 in
+    let b5 = p5 .put-part5 .ensures .0 (a .out .now) _ b4 in (
+      line-done (a .out .now) (totalsParts (a .pages) (a .skipped) (a .subframes) (a .dsms) (a .tail)) (c .put-end .ensures .0 (a .out .now) _ b5),
+      c .put-end .ensures .1,
+    )
 
 pub totals-spec : {M : Type 1} → statement M
 totals-spec =

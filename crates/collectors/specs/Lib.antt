@@ -1,4 +1,0 @@
-pub mod Pieces
-pub mod Replay
-pub mod ReplayInner
-pub mod ReplayPromises

@@ -1,0 +1,6 @@
+pub mod Agreed
+pub mod Pieces
+pub mod Replay
+pub mod ReplayHistory
+pub mod ReplayPromises
+pub mod inner
