@@ -3,8 +3,8 @@
  * The functions take fields out of messages that the receiver has put together: the NMA header, the
  * DSM header, DSM-KROOT, DSM-PKR and MACK messages; and they look up the MAC look-up table. No
  * signature, hash or key is checked here: that a message can be read does not make it genuine.
- * Names of fields are those of the OSNMA SIS ICD v1.1 as the Rust galileo-osnma gives them. DSM_ID,
- * DSM_BLOCK_ID, WN_K, TOWH_K, ITN and P_DP, for which it has none, are named here.
+ * Names of fields are those of the OSNMA SIS ICD v1.1 as the Rust galileo-osnma gives them, with an
+ * underscore in DSM_ID, DSM_BLOCK_ID, WN_K and TOWH_K. ITN and P_DP, which it has not, are ours.
  *
  *     uint64_t week;
  *     uint32_t refusal = osnma_kroot_wn(msg, len, &week);

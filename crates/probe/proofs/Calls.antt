@@ -72,7 +72,8 @@ dsm-view-told c memory x ef p et = et ∙ ap told p ∙ ap (λ (y : CollectDsm).
 pub subframe-new : {c : CollectSubframe} {r : SubframeRecord} → sp.NewSubframe c → r ≡ ps.recordOf c → ps.SubframeNew r
 subframe-new p e = ap (λ (x : SubframeRecord). sp.state (ps.collectorOf x) [] []) e ∙ p
 
-pub subframe-fed : (c : SubframeRecord) (h m : List ℕ) (page : s.Page) {b : CollectSubframe} (fed : SubframeFed) {h' m' : List ℕ} {r : SubframeRecord} {t : Told}
+pub subframe-fed : (c : SubframeRecord) (h m : List ℕ) (page : s.Page) {b : CollectSubframe} (fed : SubframeFed)
+    {h' m' : List ℕ} {r : SubframeRecord} {t : Told}
     → b ≡ ps.collectorOf c → sp.FeedSubframe b h m page fed h' m' → r ≡ ps.recordOf (fed .collector) → t ≡ told (sp.meaning-subframe (fed .answer))
     → ps.SubframeFeed c h m page (record { collector = r; answer = t }) h' m'
 subframe-fed c h m page fed {h' = h'} {m' = m'} {r = r} eb p er et =
@@ -86,7 +87,10 @@ pub subframe-traced : (c : SubframeRecord) (h m trace : List ℕ) {b : CollectSu
     → ps.SubframeFeedAll c h m trace (record { collector = r; answer = t; consumed = fed .consumed }) h' m'
 subframe-traced c h m trace fed {h' = h'} {m' = m'} {r = r} eb p er et =
     ap (λ (x : Told). record { state = sp.state (ps.collectorOf r) h' m'; answer = x; consumed = fed .consumed }) et
-    ∙ ap (λ (x : SubframeRecord). record { state = sp.state (ps.collectorOf x) h' m'; answer = told (sp.meaning-subframe (fed .answer)); consumed = fed .consumed }) er
+    ∙ ap
+    (λ (x : SubframeRecord).
+    record { state = sp.state (ps.collectorOf x) h' m'; answer = told (sp.meaning-subframe (fed .answer)); consumed = fed .consumed })
+    er
     ∙ ap ps.traced p
     ∙ ap (λ (x : CollectSubframe). ps.traced (tr.feedAll (sp.state x h m) trace)) eb
 

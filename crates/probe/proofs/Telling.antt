@@ -139,4 +139,5 @@ copy-short out bytes h = rw (lt-leb (length bytes) (length out) h)
 pub copy-whole : (out bytes now : List ℕ) (i : ℕ) → i ≡ length bytes → length bytes ≤ length out → now ≡ take i bytes ++ drop i out → now ≡ copiedTo out bytes
 unfolding copiedTo
 copy-whole out bytes now i e h g =
-    rw (le-leb (length bytes) (length out) h) (g ∙ ap (λ (n : ℕ). take n bytes ++ drop n out) e ∙ ap (λ (l : List ℕ). l ++ drop (length bytes) out) (take-length bytes))
+    rw (le-leb (length bytes) (length out) h)
+    (g ∙ ap (λ (n : ℕ). take n bytes ++ drop n out) e ∙ ap (λ (l : List ℕ). l ++ drop (length bytes) out) (take-length bytes))

@@ -30,7 +30,16 @@ abbrev subframe-back : s.State → SubframeRecord
 subframe-back x = record { week = x .week; subframe = x .subframe; counts = x .counts }
 
 abbrev store-back : m.Storage → StoreRecord
-store-back x = record { current = x .current; timed = x .timed; weeks = x .weeks; tows = x .tows; counts = x .counts; satellites = x .satellites; statuses = x .statuses }
+store-back x =
+    record {
+      current = x .current;
+      timed = x .timed;
+      weeks = x .weeks;
+      tows = x .tows;
+      counts = x .counts;
+      satellites = x .satellites;
+      statuses = x .statuses;
+    }
 
 -- the DSM collector
 pub probe-dsm-new : (r q : DsmRecord) → pd.DsmNew r → pd.DsmNew q → r ≡ q

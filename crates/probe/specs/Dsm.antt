@@ -32,7 +32,8 @@ DsmNew r = state (collectorOf r) [] ≡ new []
 
 abbrev pub DsmFeed : DsmRecord → List ℕ → ℕ → List ℕ → DsmCalled → List ℕ → Type 0
 DsmFeed c memory header block r after =
-    _≡_ {A = Called} (record { state = state (collectorOf (r .collector)) after; answer = r .answer }) (called (feed (state (collectorOf c) memory) header block))
+    _≡_ {A = Called} (record { state = state (collectorOf (r .collector)) after; answer = r .answer })
+    (called (feed (state (collectorOf c) memory) header block))
 
 abbrev pub DsmView : DsmRecord → List ℕ → List ℕ → Told → List ℕ → Type 0
 DsmView c memory out r out-after =

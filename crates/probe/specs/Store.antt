@@ -13,10 +13,28 @@ use Rattle.probe.specs.declared.store.StoreCalled.{StoreCalled}
 
 -- the same record under its two names
 abbrev pub storageOf : StoreRecord → MackStorage
-storageOf r = record { current = r .current; timed = r .timed; weeks = r .weeks; tows = r .tows; counts = r .counts; satellites = r .satellites; statuses = r .statuses }
+storageOf r =
+    record {
+      current = r .current;
+      timed = r .timed;
+      weeks = r .weeks;
+      tows = r .tows;
+      counts = r .counts;
+      satellites = r .satellites;
+      statuses = r .statuses;
+    }
 
 abbrev pub recordOf : MackStorage → StoreRecord
-recordOf r = record { current = r .current; timed = r .timed; weeks = r .weeks; tows = r .tows; counts = r .counts; satellites = r .satellites; statuses = r .statuses }
+recordOf r =
+    record {
+      current = r .current;
+      timed = r .timed;
+      weeks = r .weeks;
+      tows = r .tows;
+      counts = r .counts;
+      satellites = r .satellites;
+      statuses = r .statuses;
+    }
 
 -- the state after a call, and the answer in numbers
 pub record Called : Type 0 where

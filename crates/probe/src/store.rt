@@ -81,7 +81,9 @@ pub extern "C" fn probe_store_store(
     time: u32,
     status: u8,
 ) -> StoreCalled
-    ensures { λ r. ⌜ StoreStore storage (now (memory .entry)) (record { message = now (message .entry); asked = record { satellite = satellite; week = week; time = time }; status = status }) r (now (memory .exit)) ⌝ }
+    ensures { λ r. ⌜ StoreStore storage (now (memory .entry))
+        (record { message = now (message .entry); asked = record { satellite = satellite; week = week; time = time }; status = status })
+        r (now (memory .exit)) ⌝ }
 {
     let before = storage_of(storage);
     let stored = storage::mack_storage::store(

@@ -5,7 +5,8 @@ use subframes::subframe::CollectSubframe;
 use subframes::subframe::Message;
 use subframes::subframe::WordCount;
 ghost use mathlib.Core.Path.{_≡_};
-ghost use Rattle.probe.specs.Subframe.{collectorOf, recordOf, messageOf, SubframeNew, SubframeFeed, SubframeFeedAll, SubframeView, SubframeHkrootMessage, WordTake};
+ghost use Rattle.probe.specs.Subframe.{collectorOf, recordOf, messageOf, SubframeNew, SubframeFeed, SubframeFeedAll};
+ghost use Rattle.probe.specs.Subframe.{SubframeView, SubframeHkrootMessage, WordTake};
 
 #[repr(C)]
 pub struct SubframeRecord {
@@ -89,7 +90,9 @@ pub extern "C" fn probe_subframe_feed(
     week: u16,
     time: u32,
 ) -> SubframeCalled
-    ensures { λ r. ⌜ SubframeFeed collector (now (hkroot .entry)) (now (mack .entry)) (record { bytes = now (page .entry); satellite = satellite; week = week; time = time }) r (now (hkroot .exit)) (now (mack .exit)) ⌝ }
+    ensures { λ r. ⌜ SubframeFeed collector (now (hkroot .entry)) (now (mack .entry))
+        (record { bytes = now (page .entry); satellite = satellite; week = week; time = time })
+        r (now (hkroot .exit)) (now (mack .exit)) ⌝ }
 {
     let before = collector_of(collector);
     let fed = subframes::subframe::feed(before, hkroot, mack, page, satellite, week, time);

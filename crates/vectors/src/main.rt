@@ -2,7 +2,6 @@
 // own making, and the collectors and the store to its recorded sequences of calls, in the file sequences.bin.
 mod checksum;
 mod found;
-mod hex;
 mod print;
 mod published;
 mod published_kroot;

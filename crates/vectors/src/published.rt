@@ -1,7 +1,6 @@
 // Values that the annex of the OSNMA Receiver Guidelines v1.3 publishes, as the test suite of gnss-sdr 0.0.20 cites them, set into
 // messages of our own making: no whole message was at hand. What is ours in each is said in its file.
 use crate::found;
-use crate::hex;
 use crate::print;
 use crate::published_kroot;
 use crate::published_mack;
@@ -9,6 +8,7 @@ use crate::published_pkr;
 use crate::tally;
 use crate::tally::Tally;
 use layouts::answer::Number;
+use texts::hexadecimal;
 
 // One check more, with a line where it fails.
 pub(crate) fn held(name: &[u8], fits: bool, t: Tally) -> Tally {
@@ -25,7 +25,7 @@ pub(crate) fn number(name: &[u8], answer: Number, expected: u64, t: Tally) -> Ta
 }
 
 pub(crate) fn bytes(name: &[u8], answer: &[u8], text: &[u8], t: Tally) -> Tally {
-    held(name, hex::spells(text, answer), t)
+    held(name, hexadecimal::spells(text, answer), t)
 }
 
 pub(crate) fn all() -> Tally {

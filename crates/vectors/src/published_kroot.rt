@@ -1,8 +1,8 @@
 // A.5.2: the values of a DSM-KROOT message, set into one of 8 blocks.
-use crate::hex;
 use crate::published;
 use crate::tally::Tally;
 use layouts::dsm_kroot;
+use texts::hexadecimal;
 
 const ROOT_KEY: [u8; 32] = *b"5BF8C9CBFCF70422081475FD445DF0FF";
 
@@ -16,7 +16,7 @@ const MESSAGE: [u8; 58] = *b"2000491B04E000\
 pub(crate) fn checks(t: Tally) -> Tally {
     let mut msg = [0u8; 104];
     let view: &mut [u8] = &mut msg;
-    hex::put(view, 0, &MESSAGE);
+    hexadecimal::read(view, 0, &MESSAGE);
     let t = published::number(b"A.5.2 key size", dsm_kroot::key_size(view), 128, t);
     let t = published::number(b"A.5.2 week", dsm_kroot::kroot_wn(view), 1248, t);
     let t = published::number(b"A.5.2 alpha", dsm_kroot::alpha(view), 0x610BDF26D77B, t);

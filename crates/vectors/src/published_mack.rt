@@ -1,16 +1,16 @@
 // A.6.5.1: two tags of satellite 2, set into a MACK message of 40-bit tags and a key of 128 bits.
 use crate::found;
-use crate::hex;
 use crate::published;
 use crate::replay_mack;
 use crate::tally::Tally;
 use layouts::mack;
+use texts::hexadecimal;
 
 // Tag 0, and behind MACSEQ, which is not published, COP 15. The later tag as tag 3, a place that is not published, with
 // PRND 2, ADKD 4 and COP 15. The other tags and the key are zeros.
 fn build(msg: &mut [u8]) {
-    hex::put(msg, 0, b"E37BC4F858000F");
-    hex::put(msg, 21, b"7BB238C883024F");
+    hexadecimal::read(msg, 0, b"E37BC4F858000F");
+    hexadecimal::read(msg, 21, b"7BB238C883024F");
 }
 
 fn tag_0(msg: &[u8], t: Tally) -> Tally {

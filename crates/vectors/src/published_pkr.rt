@@ -1,10 +1,10 @@
 // A.7: the values of a DSM-PKR message, set into one of 13 blocks, the fewest that a key of 33 bytes fits into.
 use crate::found;
-use crate::hex;
 use crate::published;
 use crate::replay_pkr;
 use crate::tally::Tally;
 use layouts::dsm_pkr;
+use texts::hexadecimal;
 
 const NODE_0: [u8; 64] = *b"7CBE05D9970CFC9E22D0A43A340EF557624453A2E821AADEAC989C405D78BA06";
 
@@ -72,7 +72,7 @@ fn parts(msg: &[u8], t: Tally) -> Tally {
 pub(crate) fn checks(t: Tally) -> Tally {
     let mut msg = [0u8; 169];
     let view: &mut [u8] = &mut msg;
-    hex::put(view, 0, &MESSAGE);
+    hexadecimal::read(view, 0, &MESSAGE);
     let t = numbers(view, t);
     let t = nodes(view, t);
     parts(view, t)

@@ -27,6 +27,7 @@ pub(crate) enum Next {
     End,
 }
 
+// As `numbers::wide` of `layouts`, and with the bound, which the sums below need.
 pub(crate) fn wide(x: u8) -> u64
     ensures { λ r. ⌜ (r ≡ x) × (r < 256) ⌝ }
 {
