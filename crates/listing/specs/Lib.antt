@@ -1,0 +1,5 @@
+pub mod Examples
+pub mod Listing
+pub mod Pieces
+pub mod PiecePromises
+pub mod inner
