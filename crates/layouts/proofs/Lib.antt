@@ -1,5 +1,7 @@
 pub mod Fields
 pub mod Answers
+pub mod Timed
+pub mod Page
 pub mod Tables
 pub mod Copies
 pub mod Readers

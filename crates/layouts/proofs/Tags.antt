@@ -13,9 +13,9 @@ use lib.Seq.{take-all}
 use types.Run.{OneOf}
 use borrow.Author.Tests.{eqb-true, eqb-false, leb-false, eq-eqb, ne-eqb, lt-ltb, le-ltb, le-leb, lt-leb, not-false}
 use Rattle.layouts.specs.Answer.{Answer, refused, gives, Copied, Check, _when_, refusal, answered}
-use Rattle.layouts.specs.Bits.{field}
+use Rattle.layouts.specs.Bits.{field, bytesFrom}
 use Rattle.layouts.specs.Sizes.{keySizes, tagSizes, Named, naming}
-use Rattle.layouts.specs.Mack.{listed, sizesOf, bytesOf, sizeChecks, mackChecks, nt, tagChecks, prndName, bytesFrom, keyChecks, keyCopied}
+use Rattle.layouts.specs.Mack.{listed, sizesOf, bytesOf, sizeChecks, mackChecks, nt, tagChecks, prndName, keyChecks, keyCopied}
 use Rattle.layouts.specs.Meaning.{meaning-number}
 use Rattle.layouts.specs.declared.answer.Number.{Number}
 use Rattle.layouts.specs.declared.answer.Number.the-variants.{Value, Refused}

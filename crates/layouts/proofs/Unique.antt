@@ -6,9 +6,13 @@ use mathlib.Core.Bool.{cond}
 use Prim.Native.Nat.{ℕ}
 use lib.ListN.{getD}
 use lib.Dec.{eqb}
+use Rattle.layouts.specs.Agree.{Agree}
 use Rattle.layouts.specs.Answer.{Answer, refused, nothing, gives, Copied}
-use Rattle.layouts.specs.Meaning.{meaning-number, meaning-part, meaning-copy, meaning-status, meaning-chain-status, meaning-type, meaning-hash, meaning-mac, meaning-ecdsa, meaning-key-type, meaning-adkd, meaning-prnd, meaning-slot}
+use Rattle.layouts.specs.Meaning.{meaning-number, meaning-part, meaning-copy, meaning-status, meaning-chain-status, meaning-type, meaning-hash, meaning-mac, meaning-ecdsa, meaning-key-type, meaning-adkd, meaning-prnd, meaning-slot, meaning-page-kind}
 use Rattle.layouts.specs.BitReader.{ReadBits}
+use Rattle.layouts.specs.Numbers.{Wide, Smaller}
+use Rattle.layouts.specs.Gst.{SvnRefuses, GstRefuses}
+use Rattle.layouts.specs.InavPage.{PageKindRead, OsnmaRead}
 use Rattle.layouts.specs.NmaHeader.{NmaStatusRead, ChainIdRead, ChainAndPubkeyStatusRead}
 use Rattle.layouts.specs.DsmHeader.{DsmIdRead, DsmBlockIdRead, DsmTypeRead}
 use Rattle.layouts.specs.DsmKroot as kroot
@@ -53,10 +57,9 @@ use Rattle.layouts.specs.declared.maclt.MacLTSlot.the-variants.{Fixed, F
 use Rattle.layouts.specs.declared.maclt.MacLTSlotAnswer.{MacLTSlotAnswer}
 use Rattle.layouts.specs.declared.maclt.MacLTSlotAnswer.the-variants.{Slot as SlotIs, Refused as SlotRefused}
 use Rattle.layouts.specs.declared.maclt.FlxIndices.{FlxIndices}
-
--- whatever meets the promise is the same
-abbrev pub Agree : {A : Type 0} → (A → Type 0) → Type 0
-Agree {A} Promise = (r s : A) → Promise r → Promise s → r ≡ s
+use Rattle.layouts.specs.declared.inav_page.PageKind.{PageKind}
+use Rattle.layouts.specs.declared.inav_page.PageKind.the-variants.{Counts, Skipped, Refused as KindRefused}
+use Rattle.layouts.specs.declared.inav_page.OsnmaField.{OsnmaField}
 
 -- `back` undoes `meaning`, so two answers of one meaning are equal
 by-meaning : {A : Type 0} (meaning : A → Answer) (back : Answer → A) → ((r : A) → back (meaning r) ≡ r) → (a : Answer) → Agree (λ r. meaning r ≡ a)
@@ -224,6 +227,14 @@ undo-slot (SlotIs (Fixed AdkdReserved CrossAuth)) = refl
 undo-slot (SlotIs Flex) = refl
 undo-slot (SlotRefused n) = refl
 
+abbrev back-page-kind : Answer → PageKind
+back-page-kind = answer KindRefused Skipped (λ l. Counts)
+
+undo-page-kind : (r : PageKind) → back-page-kind (meaning-page-kind r) ≡ r
+undo-page-kind Counts = refl
+undo-page-kind Skipped = refl
+undo-page-kind (KindRefused n) = refl
+
 -- what is no enum is the equation's right side
 pub plain : {A : Type 0} (a : A) → Agree (λ r. r ≡ a)
 plain a r s p q = p ∙ sym q
@@ -234,7 +245,32 @@ indices a b = record { count = a; indices = b }
 abbrev node : Part → List ℕ → TreeNode
 node a b = record { answer = a; bytes = b }
 
+abbrev osnma-field : Copy → List ℕ → OsnmaField
+osnma-field a b = record { answer = a; bytes = b }
+
 -- Every public function, in the order of the files.
+pub wide : (x : ℕ) → Agree (Wide x)
+wide x = plain _
+
+pub smaller : (a b : ℕ) → Agree (Smaller a b)
+smaller a b = plain _
+
+pub svn-refuses : (satellite : ℕ) → Agree (SvnRefuses satellite)
+svn-refuses satellite = plain _
+
+pub gst-refuses : (satellite week time : ℕ) → Agree (GstRefuses satellite week time)
+gst-refuses satellite week time = plain _
+
+pub page-kind : (page : List ℕ) → Agree (PageKindRead page)
+page-kind page = by-meaning meaning-page-kind back-page-kind undo-page-kind _
+
+pub page-osnma : (page : List ℕ) → Agree (OsnmaRead page)
+page-osnma page r s p q =
+    let e : _≡_ {A = Copied} (record { answer = meaning-copy (r .answer); bytes = r .bytes }) (record { answer = meaning-copy (s .answer); bytes = s .bytes }) =
+    p ∙ sym q in
+    ap₂ osnma-field (by-meaning meaning-copy back-copy undo-copy _ (r .answer) (s .answer) (ap (λ (c : Copied). c .answer) e) refl)
+    (ap (λ (c : Copied). c .bytes) e)
+
 pub read-bits : (m : List ℕ) (start width : ℕ) → Agree (ReadBits m start width)
 read-bits m start width = numbers _
 

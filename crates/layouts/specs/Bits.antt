@@ -18,6 +18,11 @@ unfoldable pub field : List ℕ → ℕ → ℕ → ℕ
 field l s zero = 0
 field l s (suc w) = field l s w * 2 + bit l (s + w)
 
+-- the bytes from a bit on
+unfoldable pub bytesFrom : List ℕ → ℕ → ℕ → List ℕ
+bytesFrom m start zero = []
+bytesFrom m start (suc many) = field m start 8 ∷ bytesFrom m (start + 8) many
+
 -- A row of a layout: a field's name, its first bit and its width in bits.
 pub record Field : Type 0 where
   pub name : String

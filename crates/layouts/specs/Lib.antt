@@ -1,10 +1,15 @@
 pub mod Answer
+pub mod Lists
+pub mod Numbers
+pub mod Agree
+pub mod Gst
 pub mod Bits
 pub mod Sizes
 pub mod Meaning
 pub mod BitReader
 pub mod NmaHeader
 pub mod DsmHeader
+pub mod InavPage
 pub mod DsmKroot
 pub mod DsmPkr
 pub mod Layouts

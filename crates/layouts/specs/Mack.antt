@@ -1,13 +1,13 @@
 -- MACK messages: document 01, "MACK"; the field names are the ICD's, section 3.3. The definitions go by key bytes; a promise converts from bits.
 -- Assumes nothing.
-use Prim.Native.Nat.{ℕ, zero, suc, _+_, _-_, _*_, _/_, _%_}
+use Prim.Native.Nat.{ℕ, _+_, _-_, _*_, _/_, _%_}
 use mathlib.Core.List.{List, [], _∷_, _++_, map}
 use mathlib.Core.Bool.{Bool, true, false, cond, not}
 use mathlib.Core.Path.{_≡_}
 use lib.ListN.{length}
 use lib.Dec.{ltb, leb, eqb}
 use Rattle.layouts.specs.Answer.{Answer, gives, Check, _when_, refusal, answered, Copied}
-use Rattle.layouts.specs.Bits.{field, Field, row, the, value}
+use Rattle.layouts.specs.Bits.{Field, row, the, value, bytesFrom}
 use Rattle.layouts.specs.Sizes.{Size, keySizes, tagSizes, naming, adkds}
 use Rattle.layouts.specs.Meaning.{meaning-number, meaning-prnd, meaning-adkd, meaning-copy}
 use Rattle.layouts.specs.declared.answer.Number.{Number}
@@ -110,11 +110,6 @@ abbrev pub AdkdRead : List ℕ → ℕ → ℕ → ℕ → AdkdAnswer → Type 0
 AdkdRead m K T n r =
     meaning-adkd r
     ≡ answered (refusal (tagChecks m (bytesOf K) T n)) (gives (naming adkds (value (the "ADKD" (tagLayout T n)) m)))
-
--- the bytes from a bit on
-unfoldable pub bytesFrom : List ℕ → ℕ → ℕ → List ℕ
-bytesFrom m start zero = []
-bytesFrom m start (suc many) = field m start 8 ∷ bytesFrom m (start + 8) many
 
 -- "for the key an output of other than K/8 bytes, 1, tested last here"
 abbrev pub keyChecks : List ℕ → ℕ → ℕ → List ℕ → List Check

@@ -3,7 +3,7 @@
 -- Assumes nothing.
 use Prim.Native.Nat.{ℕ}
 use mathlib.Core.List.{List, [], _∷_, _++_}
-use Rattle.layouts.specs.Answer.{Answer, refused, gives}
+use Rattle.layouts.specs.Answer.{Answer, refused, nothing, gives}
 use Rattle.layouts.specs.declared.answer.Number.{Number}
 use Rattle.layouts.specs.declared.answer.Number.the-variants.{Value, Refused}
 use Rattle.layouts.specs.declared.answer.Part.{Part}
@@ -35,6 +35,8 @@ use Rattle.layouts.specs.declared.tag_info.AdkdAnswer.the-variants.{Name
 use Rattle.layouts.specs.declared.tag_info.Prnd.the-variants.{GalileoSvid, GalileoConstellation, Reserved as PrndReserved}
 use Rattle.layouts.specs.declared.tag_info.PrndAnswer.{PrndAnswer}
 use Rattle.layouts.specs.declared.tag_info.PrndAnswer.the-variants.{Name as PrndIs, Refused as PrndRefused}
+use Rattle.layouts.specs.declared.inav_page.PageKind.{PageKind}
+use Rattle.layouts.specs.declared.inav_page.PageKind.the-variants.{Counts, Skipped, Refused as KindRefused}
 use Rattle.layouts.specs.declared.maclt.AuthObject.{AuthObject}
 use Rattle.layouts.specs.declared.maclt.AuthObject.the-variants.{SelfAuth, CrossAuth}
 use Rattle.layouts.specs.declared.maclt.MacLTSlot.{MacLTSlot}
@@ -122,6 +124,12 @@ meaning-prnd (PrndIs (GalileoSvid n)) = gives (1 ∷ n ∷ [])
 meaning-prnd (PrndIs GalileoConstellation) = gives (255 ∷ [])
 meaning-prnd (PrndIs PrndReserved) = gives []
 meaning-prnd (PrndRefused n) = refused n
+
+-- whether a page counts; "Others are skipped"
+abbrev pub meaning-page-kind : PageKind → Answer
+meaning-page-kind Counts = gives []
+meaning-page-kind Skipped = nothing
+meaning-page-kind (KindRefused n) = refused n
 
 -- "E = cross, S = self": 0 for S, 1 for E
 abbrev pub object-number : AuthObject → ℕ

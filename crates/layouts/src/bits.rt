@@ -1,6 +1,7 @@
 // Fields: numbers made of runs of bits. Bit 0 is the high bit of byte 0.
 use crate::answer::Number;
 use crate::answer::Part;
+use crate::numbers::wide;
 ghost use mathlib.Core.Path.{_≡_};
 ghost use Prim.Native.Nat.{_+_, _*_, _^_, _≤_, _<_};
 ghost use mathlib.Core.List.{[]};
@@ -12,10 +13,10 @@ ghost use Rattle.layouts.specs.Meaning.{meaning-number, meaning-part};
 ghost use Rattle.layouts.specs.BitReader.{ReadBits};
 ghost use Rattle.layouts.specs.Inner.{Inside};
 
-fn wide(x: u8) -> u64
-    ensures { λ r. ⌜ r ≡ x ⌝ }
-{
-    x as u64
+// A row of a layout: a field's first bit and its width in bits.
+pub struct Field {
+    pub first: usize,
+    pub width: usize,
 }
 
 // `low` of `n` bits behind `high`.

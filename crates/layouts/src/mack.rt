@@ -12,7 +12,7 @@ ghost use mathlib.Core.List.{[], _∷_};
 ghost use Prim.Native.Nat.{_+_, _-_, _*_, _/_, _≤_};
 ghost use lib.ListN.{length};
 ghost use Rattle.layouts.specs.Answer.{refusal as refusalOf, answered, gives};
-ghost use Rattle.layouts.specs.Bits.{field};
+ghost use Rattle.layouts.specs.Bits.{field, bytesFrom};
 ghost use Rattle.layouts.specs.Sizes.{keySizes, tagSizes};
 ghost use Rattle.layouts.specs.Meaning.{meaning-number};
 ghost use Rattle.layouts.specs.Mack.{
@@ -22,7 +22,6 @@ ghost use Rattle.layouts.specs.Mack.{
   sizeChecks,
   mackChecks,
   tagChecks,
-  bytesFrom,
   NumTags,
   Tag0,
   Macseq,

@@ -5,8 +5,7 @@ use mathlib.Core.Path.{_≡_, refl, ap, _∙_}
 use mathlib.Core.List.{_++_}
 use Prim.Native.Nat.{ℕ, _+_, _*_, _/_, _%_, _≤_, _-_}
 use lib.ListN.{length, take, drop}
-use Rattle.layouts.specs.Bits.{field}
-use Rattle.layouts.specs.Mack.{bytesFrom}
+use Rattle.layouts.specs.Bits.{field, bytesFrom}
 use native.Mathlib.Omega.{arith}
 use Rattle.layouts.proofs.Tags.{key-turn, key-copied}
 use Rattle.layouts.proofs.mack.copy_bits.Statement.{statement}

@@ -1,0 +1,11 @@
+-- What the two functions on plain numbers promise.
+-- Assumes nothing.
+use Prim.Native.Nat.{ℕ, min}
+use mathlib.Core.Path.{_≡_}
+
+-- a byte as a number of 64 bits
+abbrev pub Wide : ℕ → ℕ → Type 0
+Wide x r = r ≡ x
+
+abbrev pub Smaller : ℕ → ℕ → ℕ → Type 0
+Smaller a b r = r ≡ min a b
