@@ -1,3 +1,4 @@
 pub mod Examples
+pub mod Pages
 pub mod PieceSteps
 pub mod Putting

@@ -1,5 +1,6 @@
 pub mod Examples
+pub mod Histories
 pub mod Listing
-pub mod Pieces
 pub mod PiecePromises
+pub mod Pieces
 pub mod inner

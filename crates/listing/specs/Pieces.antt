@@ -7,7 +7,7 @@ use lib.ListN.{length, getD, take, replicate}
 use lib.Dec.{leb, ltb, eqb}
 use Rattle.layouts.specs.Answer.{Answer, refused, nothing, gives, Check, _when_, refusal}
 use Rattle.page_replay.specs.Replay.{State, new, Run, replayed, replayChecks}
-use Rattle.texts.specs.Lines.{put}
+use Rattle.layouts.specs.Lists.{put}
 use Rattle.listing.specs.Listing.{asked, refusedLine, completed, totalsLine, pagesIn}
 
 -- The running record with the lent memory: the replay; of the 30 bytes `page` the first `held` are of a page that is not whole yet; and whether it is over, since the arguments were refused.
@@ -25,7 +25,7 @@ pub record Told : Type 0 where
 
 -- a text at the start of the lent output
 abbrev pub says : Running → ℕ → List ℕ → List ℕ → Told
-says s taken text out = record { state = s; answer = gives (taken ∷ length text ∷ []); out = put out 0 text }
+says s taken text out = record { state = s; answer = gives (taken ∷ length text ∷ []); out = put out 0 (length text) text }
 
 -- "whatever the room from 256 bytes on (less is 1)"
 abbrev pub roomChecks : List ℕ → List Check
@@ -71,7 +71,7 @@ abbrev pub next : Running → List ℕ → Running
 next s piece =
     record {
       replay = run s piece .state;
-      page = cond (areWhole s piece) (s .page) (put (s .page) (s .held) (take (takes s piece) piece));
+      page = cond (areWhole s piece) (s .page) (put (s .page) (s .held) (takes s piece) (take (takes s piece) piece));
       held = length (together s piece) % 30;
       over = false;
     }

@@ -13,7 +13,7 @@ ghost use Prim.Native.Nat.{ℕ, _+_, _≤_, min};
 ghost use lib.ListN.{length, take};
 ghost use lib.Dec.{leb, eqb};
 ghost use Rattle.layouts.specs.Answer.{refusal};
-ghost use Rattle.texts.specs.Lines.{put as putOf};
+ghost use Rattle.layouts.specs.Lists.{put as putOf};
 ghost use Rattle.page_replay.specs.ReplayPromises.{outcome as replayOutcome};
 ghost use Rattle.listing.specs.Pieces.{areWhole, recordChecks};
 ghost use Rattle.listing.specs.PiecePromises.{state, outcome, BeginListing, FeedListing, FinishListing};
@@ -184,7 +184,7 @@ fn feed_pages(
 // The first `many` bytes of the piece go into the page, behind the `held` that it has.
 fn fill(page: [u8; 30], held: usize, piece: &[u8], many: usize) -> [u8; 30]
     requires { ⌜ (held + many ≤ 30) × (many ≤ length (now piece)) ⌝ }
-    ensures { λ r. ⌜ r ≡ putOf page held (take many (now (piece .entry))) ⌝ }
+    ensures { λ r. ⌜ r ≡ putOf page held many (take many (now (piece .entry))) ⌝ }
 {
     let mut page = page;
     put::text(&mut page, held, &piece[..many]);
