@@ -96,7 +96,9 @@ unfolding first
 first-before test zero i r k e h g l = absurd (omega arith)
 first-before test (suc n) i r k e h g l = go (test i) refl (eqb i k) refl e (λ d a. first-before test n (suc i) r k d a g (omega arith))
   where
-    go : (b : Bool) → test i ≡ b → (c : Bool) → eqb i k ≡ c → cond b i (first test n (suc i)) ≡ r → (first test n (suc i) ≡ r → suc i ≤ k → test k ≡ false) → test k ≡ false
+    go :
+        (b : Bool) → test i ≡ b → (c : Bool) → eqb i k ≡ c → cond b i (first test n (suc i)) ≡ r
+        → (first test n (suc i) ≡ r → suc i ≤ k → test k ≡ false) → test k ≡ false
     go true q c z d ih = absurd (omega arith)
     go false q true z d ih = rw (eqb-true i k z) at q
     go false q false z d ih = ih d (omega (arith, eqb-false i k z))

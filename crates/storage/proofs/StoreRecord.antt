@@ -11,6 +11,7 @@ use lib.ListN.{getD}
 use lib.Dec.{leb, ltb, eqb}
 use borrow.Author.Tests.{le-leb, lt-leb, le-ltb, lt-ltb, eq-eqb, ne-eqb, eqb-true, eqb-false, leb-true, ltb-true, not-true, not-false}
 use Rattle.storage.specs.Store.{Storage, all, first, legalEntry, legalTime, legalEntries, legalPlace, legal, isTime, nextPlace}
+use Rattle.storage.specs.StoreInner.{timeIs, sentBy}
 use Rattle.storage.proofs.Searches.{all-more, all-not, all-done, first-here, first-later, first-none, and-left, and-right, all-at}
 
 -- A message's satellite and status.
@@ -142,28 +143,27 @@ module _ (messages times : ℕ) (o : Storage) where
   places-end p e h l k = rw (lt-ltb (o .current) times h) (all-done (legalPlace messages o) p times l k e)
 
 -- The first message of a satellite: before each turn of the loop what is left gives the answer.
-abbrev pub sentBy : List ℕ → ℕ → ℕ → ℕ → Bool
-sentBy satellites at satellite j = eqb (getD satellites (at + j) 0) satellite
-
 module _ (satellites : List ℕ) (at satellite j n : ℕ) (e : first (sentBy satellites at satellite) (n - j) j ≡ first (sentBy satellites at satellite) n 0) where
   pub sent-here : j < n → getD satellites (at + j) 0 ≡ satellite → j ≡ first (sentBy satellites at satellite) n 0
   sent-here h g = first-here (sentBy satellites at satellite) j n h e (eq-eqb _ satellite g)
 
-  pub sent-later : j < n → (getD satellites (at + j) 0 ≡ satellite → ⊥) → first (sentBy satellites at satellite) (n - (j + 1)) (j + 1) ≡ first (sentBy satellites at satellite) n 0
+  pub sent-later :
+      j < n → (getD satellites (at + j) 0 ≡ satellite → ⊥)
+      → first (sentBy satellites at satellite) (n - (j + 1)) (j + 1) ≡ first (sentBy satellites at satellite) n 0
   sent-later h g = first-later (sentBy satellites at satellite) j n h e (ne-eqb _ satellite g)
 
   pub sent-none : n ≤ j → j ≤ n → j ≡ first (sentBy satellites at satellite) n 0
   sent-none h g = first-none (sentBy satellites at satellite) j n h g e
 
 -- The lowest place with a time, likewise.
-abbrev pub timeIs : List Bool → List ℕ → List ℕ → ℕ → ℕ → ℕ → Bool
-timeIs timed weeks tows week time p = isTime (getD timed p false) (getD weeks p 0) (getD tows p 0) week time
-
-module _ (timed : List Bool) (weeks tows : List ℕ) (week time p n : ℕ) (e : first (timeIs timed weeks tows week time) (n - p) p ≡ first (timeIs timed weeks tows week time) n 0) where
+module _ (timed : List Bool) (weeks tows : List ℕ) (week time p n : ℕ)
+    (e : first (timeIs timed weeks tows week time) (n - p) p ≡ first (timeIs timed weeks tows week time) n 0) where
   pub time-here : p < n → {b : Bool} → b ≡ timeIs timed weeks tows week time p → b ≡ true → p ≡ first (timeIs timed weeks tows week time) n 0
   time-here h q g = first-here (timeIs timed weeks tows week time) p n h e (sym q ∙ g)
 
-  pub time-later : p < n → {b : Bool} → b ≡ timeIs timed weeks tows week time p → b ≡ false → first (timeIs timed weeks tows week time) (n - (p + 1)) (p + 1) ≡ first (timeIs timed weeks tows week time) n 0
+  pub time-later :
+      p < n → {b : Bool} → b ≡ timeIs timed weeks tows week time p → b ≡ false
+      → first (timeIs timed weeks tows week time) (n - (p + 1)) (p + 1) ≡ first (timeIs timed weeks tows week time) n 0
   time-later h q g = first-later (timeIs timed weeks tows week time) p n h e (sym q ∙ g)
 
   pub time-nowhere : n ≤ p → p ≤ n → p ≡ first (timeIs timed weeks tows week time) n 0

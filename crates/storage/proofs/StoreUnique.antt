@@ -37,7 +37,16 @@ undo-found (NotFound n) = refl
 
 -- the code's record is the definition's
 abbrev back-storage : Storage → MackStorage
-back-storage o = record { current = o .current; timed = o .timed; weeks = o .weeks; tows = o .tows; counts = o .counts; satellites = o .satellites; statuses = o .statuses }
+back-storage o =
+    record {
+      current = o .current;
+      timed = o .timed;
+      weeks = o .weeks;
+      tows = o .tows;
+      counts = o .counts;
+      satellites = o .satellites;
+      statuses = o .statuses;
+    }
 
 pub new-storage : (r s : MackStorage) → NewStorage r → NewStorage s → r ≡ s
 new-storage r s p q = ap back-storage (p ∙ sym q)

@@ -11,11 +11,13 @@ use borrow.Author.Tests.{le-ltb, lt-ltb, eq-eqb, ne-eqb, eqb-true, eqb-false, lt
 use Rattle.layouts.specs.Answer.{Answer, refused, nothing, gives, refusal}
 use Rattle.storage.specs.declared.places.Admitted.{Admitted}
 use Rattle.storage.specs.declared.places.Admitted.the-variants.{Refused as NotAdmitted, At}
-use Rattle.storage.specs.StoreInner.{Admits, AdmitsAt, fullAt, movesAt}
+use Rattle.storage.specs.StoreInner.{Admits, AdmitsAt, fullAt, movesAt, sentBy}
 use Rattle.layouts.proofs.Answers.{none-fails, stopped, went-on, refused-with, given-with}
-use Rattle.storage.specs.Store.{Storage, State, Asked, Call, Outcome, first, entry, legalPlace, legal, isTime, hasTime, timeChecks, askChecks, full, statusChecks, entryChecks, storeChecks, nextPlace, moves, placeFor, numberFor, placeOf, numberOf, entered, put, stored, store, reached, firstOf, foundAmong, found, get}
+use Rattle.storage.specs.Store.{Storage, State, Asked, Call, Outcome, first, entry, legalPlace, legal, isTime, hasTime, timeChecks, askChecks, full}
+use Rattle.storage.specs.Store.{statusChecks, entryChecks, storeChecks, nextPlace, moves, placeFor, numberFor, placeOf, numberOf, entered, put}
+use Rattle.storage.specs.Store.{stored, store, reached, firstOf, foundAmong, found, get}
 use Rattle.storage.proofs.Searches.{and-both, and-first, and-last}
-use Rattle.storage.proofs.StoreRecord.{next-below, sentBy, legal-current, legal-at, place-few, place-untimed}
+use Rattle.storage.proofs.StoreRecord.{next-below, legal-current, legal-at, place-few, place-untimed}
 
 -- The refusals of what is asked.
 module _ (a : Asked) where
@@ -94,27 +96,36 @@ module _ (messages times : ℕ) (o : Storage) (a : Asked) (status : ℕ) {q : �
   not-asked ne = stopped (askChecks messages times o a) (statusChecks status (full messages o (a .week) (a .time))) e ne
 
   -- what the numbers of the current place tell
-  pub told-there : q ≡ 0 → (x : Admitted) → AdmitsAt messages times (o .current) (getD (o .timed) (o .current) false) (getD (o .weeks) (o .current) 0) (getD (o .tows) (o .current) 0) (getD (o .counts) (o .current) 0) a status x
+  pub told-there :
+      q ≡ 0 → (x : Admitted)
+      → AdmitsAt messages times (o .current) (getD (o .timed) (o .current) false) (getD (o .weeks) (o .current) 0) (getD (o .tows) (o .current) 0)
+      (getD (o .counts) (o .current) 0) a status x
       → Admits messages times o a status x
   unfolding placeFor numberFor
   told-there z (NotAdmitted n) f = (went-on (askChecks messages times o a) (statusChecks status (full messages o (a .week) (a .time))) tt e z (f .0), f .1)
-  told-there z (At p j) f = (sym (went-on (askChecks messages times o a) (statusChecks status (full messages o (a .week) (a .time))) tt e z (sym (f .0))), f .1, f .2)
+  told-there z (At p j) f =
+      (sym (went-on (askChecks messages times o a) (statusChecks status (full messages o (a .week) (a .time))) tt e z (sym (f .0))), f .1, f .2)
 
 -- Where a message goes, by the numbers of the current place.
-module _ (messages times current : ℕ) (timed : Bool) (week tow count : ℕ) (a : Asked) (status : ℕ) {same : Bool} (h : same ≡ isTime timed week tow (a .week) (a .time))
+module _ (messages times current : ℕ) (timed : Bool) (week tow count : ℕ) (a : Asked) (status : ℕ) {same : Bool}
+    (h : same ≡ isTime timed week tow (a .week) (a .time))
     {r : ℕ} (e : r ≡ refusal (statusChecks status (same && eqb count messages))) where
   pub at-refused : r ≡ refusal (statusChecks status (fullAt messages timed week tow count a))
   at-refused = e ∙ ap (λ (x : Bool). refusal (statusChecks status (x && eqb count messages))) h
 
   module _ (z : r ≡ 0) where
-    at-moved : (b : Bool) → movesAt timed week tow a ≡ b → {p j : ℕ} → p ≡ cond b (nextPlace times current) current → j ≡ cond b 0 count → AdmitsAt messages times current timed week tow count a status (At p j)
+    at-moved :
+        (b : Bool) → movesAt timed week tow a ≡ b → {p j : ℕ} → p ≡ cond b (nextPlace times current) current → j ≡ cond b 0 count
+        → AdmitsAt messages times current timed week tow count a status (At p j)
     at-moved b m g k = (
       sym at-refused ∙ z,
       g ∙ ap (λ (x : Bool). cond x (nextPlace times current) current) (sym m),
       k ∙ ap (λ (x : Bool). cond x 0 count) (sym m),
     )
 
-    pub at-next : timed ≡ true → not same ≡ true → {p : ℕ} → p ≡ nextPlace times current → AdmitsAt messages times current timed week tow count a status (At p 0)
+    pub at-next :
+        timed ≡ true → not same ≡ true → {p : ℕ} → p ≡ nextPlace times current
+        → AdmitsAt messages times current timed week tow count a status (At p 0)
     at-next t n g = at-moved true (and-both t (ap not (sym h) ∙ n)) g refl
 
     pub at-same : timed ≡ true → not same ≡ false → AdmitsAt messages times current timed week tow count a status (At current count)
@@ -136,10 +147,13 @@ pub record Fine (messages times : ℕ) (s : State) (c : Call) : Type 0 where
   pub place-in : placeOf times s c < times
   pub number-in : numberOf s c < messages
 
-number-below : (messages : ℕ) (o : Storage) (week time : ℕ) → 0 < messages → legalPlace messages o (o .current) ≡ true → full messages o week time ≡ false → numberFor o week time < messages
+number-below :
+    (messages : ℕ) (o : Storage) (week time : ℕ) → 0 < messages → legalPlace messages o (o .current) ≡ true → full messages o week time ≡ false
+    → numberFor o week time < messages
 unfolding numberFor isTime
 number-below messages o week time some e f =
-    go (getD (o .timed) (o .current) false) (eqb (getD (o .weeks) (o .current) 0) week) (eqb (getD (o .tows) (o .current) 0) time) (eqb (getD (o .counts) (o .current) 0) messages) refl (place-untimed messages o (o .current) e) f
+    go (getD (o .timed) (o .current) false) (eqb (getD (o .weeks) (o .current) 0) week) (eqb (getD (o .tows) (o .current) 0) time)
+    (eqb (getD (o .counts) (o .current) 0) messages) refl (place-untimed messages o (o .current) e) f
   where
     go : (t w m n : Bool) → eqb (getD (o .counts) (o .current) 0) messages ≡ n → (t ≡ false → getD (o .counts) (o .current) 0 ≡ 0) → (t && w && m && n) ≡ false
         → cond (t && not (t && w && m)) 0 (getD (o .counts) (o .current) 0) < messages
@@ -187,12 +201,14 @@ module _ (messages times : ℕ) (s : State) (c : Call) {q : ℕ} (e : q ≡ refu
   store-stored z = rw (← e, z)
 
 pub stored-is : (messages times : ℕ) (s : State) (c : Call) {p j : ℕ} {o : Storage} {m : List ℕ} → p ≡ placeOf times s c → j ≡ numberOf s c
-    → o ≡ entered messages (s .storage) p j (c .asked) (c .status) → m ≡ put (s .memory) (entry messages p j) (c .message) → _≡_ {A = State} (record { storage = o; memory = m }) (stored messages times s c)
+    → o ≡ entered messages (s .storage) p j (c .asked) (c .status) → m ≡ put (s .memory) (entry messages p j) (c .message)
+    → _≡_ {A = State} (record { storage = o; memory = m }) (stored messages times s c)
 unfolding stored
 stored-is messages times s c ep ej eo em = rw (eo, em, ep, ej)
 
 -- What is told of where a message goes, the lent bytes and the message being as long as they should.
-module _ (messages times : ℕ) (s : State) (c : Call) (x : Admitted) (e : Admits messages times (s .storage) (c .asked) (c .status) x) (l : length (s .memory) ≡ 60 * (messages * times)) (k : length (c .message) ≡ 60) where
+module _ (messages times : ℕ) (s : State) (c : Call) (x : Admitted) (e : Admits messages times (s .storage) (c .asked) (c .status) x)
+    (l : length (s .memory) ≡ 60 * (messages * times)) (k : length (c .message) ≡ 60) where
   pub told-refused : {n : ℕ} → x ≡ NotAdmitted n → _≡_ {A = Outcome} (record { state = s; answer = refused n }) (store messages times s c)
   told-refused g =
       let f = subst (Admits messages times (s .storage) (c .asked) (c .status)) g e in
@@ -211,10 +227,13 @@ module _ (messages times : ℕ) (s : State) (c : Call) (x : Admitted) (e : Admit
     pub told-below : 0 < messages → (p < times) × (j < messages)
     told-below pos = let f = fine messages times s c pos told-none refl in (omega (arith, f .place-in, told-place), omega (arith, f .number-in, told-number))
 
-    pub told-stored : {o : Storage} {m : List ℕ} → o ≡ entered messages (s .storage) p j (c .asked) (c .status) → m ≡ put (s .memory) (entry messages p j) (c .message)
+    pub told-stored :
+        {o : Storage} {m : List ℕ} → o ≡ entered messages (s .storage) p j (c .asked) (c .status)
+        → m ≡ put (s .memory) (entry messages p j) (c .message)
         → _≡_ {A = Outcome} (record { state = record { storage = o; memory = m }; answer = gives [] }) (store messages times s c)
     told-stored eo em =
-        ap (λ (t : State). record { state = t; answer = gives [] }) (stored-is messages times s c told-place told-number eo em) ∙ store-stored messages times s c told-none refl
+        ap (λ (t : State). record { state = t; answer = gives [] }) (stored-is messages times s c told-place told-number eo em)
+        ∙ store-stored messages times s c told-none refl
 
 -- Finding.
 module _ (satellites statuses : List ℕ) (at count satellite : ℕ) {j : ℕ} (e : j ≡ first (sentBy satellites at satellite) count 0) where

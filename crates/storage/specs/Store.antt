@@ -1,4 +1,5 @@
--- The MACK store: document 01, "MACK store". Everything is said over two numbers: how many messages a place has room for, and how many times (places) there are. Document 01 has 36 and 12.
+-- The MACK store: document 01, "MACK store". Everything is said over two numbers: how many messages a place has room for, and how many times (places) there
+-- are. Document 01 has 36 and 12.
 -- Assumes nothing.
 use Prim.Native.Nat.{ℕ, zero, suc, _+_, _*_}
 use mathlib.Core.List.{List, [], _∷_, _++_}
@@ -113,7 +114,9 @@ entryChecks messages times o a status = askChecks messages times o a ++ statusCh
 -- .. after the lent bytes and the message: 1
 abbrev pub storeChecks : ℕ → ℕ → State → Call → List Check
 storeChecks messages times s c =
-    1 when not (eqb (length (s .memory)) (60 * (messages * times))) ∷ 1 when not (eqb (length (c .message)) 60) ∷ entryChecks messages times (s .storage) (c .asked) (c .status)
+    1 when not (eqb (length (s .memory)) (60 * (messages * times)))
+    ∷ 1 when not (eqb (length (c .message)) 60)
+    ∷ entryChecks messages times (s .storage) (c .asked) (c .status)
 
 -- "12 places in a ring": the place after p
 unfoldable pub nextPlace : ℕ → ℕ → ℕ
@@ -174,7 +177,8 @@ store messages times s c =
 unfoldable pub reached : ℕ → Storage → ℕ → ℕ → ℕ
 reached times o week time = first (hasTime o week time) times 0
 
--- "where its first message of that satellite lies, as the number of its first byte, with its status": of the messages from number `at` on, as many as the count says
+-- "where its first message of that satellite lies, as the number of its first byte, with its status": of the messages from number `at` on, as many as the
+-- count says
 unfoldable pub firstOf : List ℕ → ℕ → ℕ → ℕ → ℕ
 firstOf satellites at count satellite = first (λ j. eqb (getD satellites (at + j) 0) satellite) count 0
 

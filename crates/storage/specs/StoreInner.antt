@@ -1,15 +1,36 @@
 -- What inner functions of the store need and do. No promise of a public function cites this file.
 -- Assumes nothing.
-use Prim.Native.Nat.{ℕ, _*_, _≤_}
+use Prim.Native.Nat.{ℕ, _+_, _*_, _≤_}
 use mathlib.Core.Path.{_≡_}
-use mathlib.Core.Bool.{Bool, cond, not, _&&_}
+use mathlib.Core.List.{List}
+use mathlib.Core.Bool.{Bool, false, cond, not, _&&_}
 use lib.Dec.{eqb}
-use lib.ListN.{length}
+use lib.ListN.{length, getD}
 use Rattle.storage.specs.Store.{Storage, Asked, isTime, statusChecks, entryChecks, nextPlace, placeFor, numberFor}
 use Rattle.layouts.specs.Answer.{refusal}
 use Rattle.storage.specs.declared.places.Asked.{Asked as AskedFor}
 use Rattle.storage.specs.declared.places.Admitted.{Admitted}
 use Rattle.storage.specs.declared.places.Admitted.the-variants.{Refused as NotAdmitted, At}
+
+-- the record from its lists, lent one by one
+abbrev pub lent : ℕ → List Bool → List ℕ → List ℕ → List ℕ → List ℕ → List ℕ → Storage
+lent current timed weeks tows counts satellites statuses =
+    record {
+      current = current;
+      timed = timed;
+      weeks = weeks;
+      tows = tows;
+      counts = counts;
+      satellites = satellites;
+      statuses = statuses;
+    }
+
+-- the tests of the searches: a place has that time, a message is the satellite's
+abbrev pub timeIs : List Bool → List ℕ → List ℕ → ℕ → ℕ → ℕ → Bool
+timeIs timed weeks tows week time p = isTime (getD timed p false) (getD weeks p 0) (getD tows p 0) week time
+
+abbrev pub sentBy : List ℕ → ℕ → ℕ → ℕ → Bool
+sentBy satellites at satellite j = eqb (getD satellites (at + j) 0) satellite
 
 -- the lists of a store have the lengths of so many messages and times
 pub record Fits (messages times : ℕ) (o : Storage) : Type 0 where
@@ -39,7 +60,8 @@ abbrev pub movesAt : Bool → ℕ → ℕ → Asked → Bool
 movesAt timed week tow a = timed && not (isTime timed week tow (a .week) (a .time))
 
 abbrev pub AdmitsAt : ℕ → ℕ → ℕ → Bool → ℕ → ℕ → ℕ → Asked → ℕ → Admitted → Type 0
-AdmitsAt messages times current timed week tow count a status (NotAdmitted n) = (n ≡ refusal (statusChecks status (fullAt messages timed week tow count a))) × (n ≡ 0 → ⊥)
+AdmitsAt messages times current timed week tow count a status (NotAdmitted n) =
+    (n ≡ refusal (statusChecks status (fullAt messages timed week tow count a))) × (n ≡ 0 → ⊥)
 AdmitsAt messages times current timed week tow count a status (At p j) =
     (refusal (statusChecks status (fullAt messages timed week tow count a)) ≡ 0)
     × (p ≡ cond (movesAt timed week tow a) (nextPlace times current) current) × (j ≡ cond (movesAt timed week tow a) 0 count)

@@ -14,11 +14,27 @@ use Rattle.storage.specs.declared.mack_storage.MackFound.the-variants.{A
 
 -- the record as the definitions have it
 abbrev pub storageOf : MackStorage → Storage
-storageOf r = record { current = r .current; timed = r .timed; weeks = r .weeks; tows = r .tows; counts = r .counts; satellites = r .satellites; statuses = r .statuses }
+storageOf r =
+    record {
+      current = r .current;
+      timed = r .timed;
+      weeks = r .weeks;
+      tows = r .tows;
+      counts = r .counts;
+      satellites = r .satellites;
+      statuses = r .statuses;
+    }
 
 -- .. and with the lent bytes beside it
 abbrev pub state : MackStorage → List ℕ → State
 state r memory = record { storage = storageOf r; memory = memory }
+
+-- what a call asks and what it stores, from its arguments
+abbrev pub asks : ℕ → ℕ → ℕ → Asked
+asks satellite week time = record { satellite = satellite; week = week; time = time }
+
+abbrev pub call : List ℕ → ℕ → ℕ → ℕ → ℕ → Call
+call message satellite week time status = record { message = message; asked = asks satellite week time; status = status }
 
 abbrev pub meaning-store : StoreAnswer → Answer
 meaning-store Stored = gives []

@@ -2,12 +2,14 @@
 use crate::places;
 use crate::places::Admitted;
 use crate::places::Asked;
+use crate::places::Place;
 ghost use mathlib.Core.Path.{_≡_};
 ghost use Prim.Native.Nat.{_+_, _*_, _≤_, _<_};
 ghost use lib.ListN.{length};
-ghost use Rattle.storage.specs.Store.{entered, put};
+ghost use Rattle.layouts.specs.Answer.{refusal};
+ghost use Rattle.storage.specs.Store.{askChecks, entered, put};
 ghost use Rattle.storage.specs.StoreInner.{askedOf, Admits};
-ghost use Rattle.storage.specs.StorePromises.{storageOf, NewStorage, StoreMack, GetMack};
+ghost use Rattle.storage.specs.StorePromises.{storageOf, asks, call, NewStorage, StoreMack, GetMack};
 
 // What each place and each message of it has; the bytes of the messages are lent by the caller.
 pub struct MackStorage {
@@ -83,12 +85,12 @@ fn enter(storage: MackStorage, place: usize, number: usize, asked: Asked, status
     next
 }
 
-// Where a message of that satellite, time and status goes, by this record.
-fn goes_to(storage: MackStorage, asked: Asked, status: u8) -> Admitted
-    ensures { λ r. ⌜ Admits 36 12 (storageOf storage) (askedOf asked) status r ⌝ }
+// The refusal number of the record, a satellite and a time; 0 for none.
+fn ask_refuses(storage: MackStorage, asked: Asked) -> u8
+    ensures { λ r. ⌜ r ≡ refusal (askChecks 36 12 (storageOf storage) (askedOf asked)) ⌝ }
 {
     let current = storage.current as usize;
-    places::admit(
+    if !places::legal(
         current,
         &storage.timed,
         &storage.weeks,
@@ -98,12 +100,32 @@ fn goes_to(storage: MackStorage, asked: Asked, status: u8) -> Admitted
         &storage.statuses,
         36,
         12,
-        asked,
-        status,
-    )
+    ) {
+        return 12;
+    }
+    places::asked_refuses(asked)
 }
 
-// Stores a message. Refuses 1 for lent bytes other than 25,920 or a message other than 60, 12 for the record, 2, 3, 4 for satellite, week and time, 7 for a status above 3, then 10 for a full place.
+// Where a message of that satellite, time and status goes, by this record.
+fn goes_to(storage: MackStorage, asked: Asked, status: u8) -> Admitted
+    ensures { λ r. ⌜ Admits 36 12 (storageOf storage) (askedOf asked) status r ⌝ }
+{
+    let refused = ask_refuses(storage, asked);
+    if refused != 0 {
+        return Admitted::Refused(refused);
+    }
+    let current = storage.current as usize;
+    let here = Place {
+        timed: storage.timed[current],
+        week: storage.weeks[current],
+        tow: storage.tows[current],
+        count: storage.counts[current] as usize,
+    };
+    places::admit_at(36, 12, current, here, asked, status)
+}
+
+// Stores a message. Refuses 1 for lent bytes other than 25,920 or a message other than 60, 12 for the record, 2, 3, 4 for satellite, week and time, 7 for a
+// status above 3, then 10 for a full place.
 pub fn store(
     storage: MackStorage,
     memory: &mut [u8],
@@ -113,7 +135,7 @@ pub fn store(
     time: u32,
     status: u8,
 ) -> MackStored
-    ensures { λ r. ⌜ StoreMack storage (now (memory .entry)) (record { message = now (message .entry); asked = record { satellite = satellite; week = week; time = time }; status = status }) r (now (memory .exit)) ⌝ }
+    ensures { λ r. ⌜ StoreMack storage (now (memory .entry)) (call (now (message .entry)) satellite week time status) r (now (memory .exit)) ⌝ }
 {
     if memory.len() != 25920 || message.len() != 60 {
         return MackStored {
@@ -144,24 +166,34 @@ pub fn store(
 
 // Where the first message of the satellite at that time lies, with its status. Refuses 12 for the record, 2, 3, 4 for satellite, week and time.
 pub fn get(storage: MackStorage, satellite: u8, week: u16, time: u32) -> MackFound
-    ensures { λ r. ⌜ GetMack storage (record { satellite = satellite; week = week; time = time }) r ⌝ }
+    ensures { λ r. ⌜ GetMack storage (asks satellite week time) r ⌝ }
 {
-    let current = storage.current as usize;
     let asked = Asked {
         satellite,
         week,
         time,
     };
-    places::search(
-        current,
+    let refused = ask_refuses(storage, asked);
+    if refused != 0 {
+        return MackFound::Refused(refused);
+    }
+    let place = places::lowest(
         &storage.timed,
         &storage.weeks,
         &storage.tows,
-        &storage.counts,
+        12,
+        week,
+        time,
+    );
+    if 12 <= place {
+        return MackFound::Nothing;
+    }
+    let many = storage.counts[place] as usize;
+    places::find(
         &storage.satellites,
         &storage.statuses,
-        36,
-        12,
-        asked,
+        36 * place,
+        many,
+        satellite,
     )
 }

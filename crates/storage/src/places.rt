@@ -1,4 +1,4 @@
-// The places of the MACK store and their messages, in lists that are lent: what is in range, the ring, where a message lies and where the next one goes.
+// The places of the MACK store and their messages: what is in range, the ring, where a message lies and where the next one goes.
 use crate::mack_storage::MackFound;
 ghost use mathlib.Core.Path.{_≡_};
 ghost use mathlib.Core.Bool.{false, _&&_};
@@ -6,8 +6,9 @@ ghost use Prim.Native.Nat.{_+_, _≤_, _<_};
 ghost use lib.ListN.{length, getD};
 ghost use lib.Dec.{eqb};
 ghost use Rattle.layouts.specs.Answer.{refusal as refusalOf};
-ghost use Rattle.storage.specs.Store.{legalEntry, legalTime, legalEntries, legal as legalOf, isTime, timeChecks, askChecks, statusChecks, nextPlace, first as firstNumber, foundAmong, get as getOf};
-ghost use Rattle.storage.specs.StoreInner.{askedOf, Fits, Admits, AdmitsAt};
+ghost use Rattle.storage.specs.Store.{legalEntry, legalTime, legalEntries, legal as legalOf, isTime, timeChecks, statusChecks};
+ghost use Rattle.storage.specs.Store.{nextPlace, first as firstNumber, foundAmong};
+ghost use Rattle.storage.specs.StoreInner.{askedOf, lent, timeIs, sentBy, Fits, AdmitsAt};
 ghost use Rattle.storage.specs.StorePromises.{meaning-found};
 
 // What is asked for, or stored: a satellite and a time.
@@ -18,11 +19,11 @@ pub(crate) struct Asked {
 }
 
 // What a place has: a time or none, and so many messages.
-struct Place {
-    timed: bool,
-    week: u16,
-    tow: u32,
-    count: usize,
+pub(crate) struct Place {
+    pub timed: bool,
+    pub week: u16,
+    pub tow: u32,
+    pub count: usize,
 }
 
 // A message's satellite and status are in range.
@@ -79,7 +80,7 @@ fn time_legal(messages: usize, timed: bool, week: u16, tow: u32, count: usize) -
 }
 
 // The record is in range.
-fn legal<'a>(
+pub(crate) fn legal<'a>(
     current: usize,
     timed: &'a [bool],
     weeks: &'a [u16],
@@ -90,8 +91,9 @@ fn legal<'a>(
     messages: usize,
     times: usize,
 ) -> bool
-    requires { ⌜ Fits messages times (record { current = current; timed = now timed; weeks = now weeks; tows = now tows; counts = now counts; satellites = now satellites; statuses = now statuses }) ⌝ }
-    ensures { λ r. ⌜ r ≡ legalOf messages times (record { current = current; timed = now (timed .entry); weeks = now (weeks .entry); tows = now (tows .entry); counts = now (counts .entry); satellites = now (satellites .entry); statuses = now (statuses .entry) }) ⌝ }
+    requires { ⌜ Fits messages times (lent current (now timed) (now weeks) (now tows) (now counts) (now satellites) (now statuses)) ⌝ }
+    ensures { λ r. ⌜ r ≡ legalOf messages times (lent current (now (timed .entry)) (now (weeks .entry)) (now (tows .entry)) (now (counts .entry))
+        (now (satellites .entry)) (now (statuses .entry))) ⌝ }
 {
     if times <= current {
         return false;
@@ -135,7 +137,7 @@ fn next_place(times: usize, p: usize) -> usize
 }
 
 // The lowest-numbered place with that time; `times` where no place has it.
-fn lowest<'a>(
+pub(crate) fn lowest<'a>(
     timed: &'a [bool],
     weeks: &'a [u16],
     tows: &'a [u32],
@@ -144,7 +146,7 @@ fn lowest<'a>(
     time: u32,
 ) -> usize
     requires { ⌜ (length (now timed) ≡ times) × (length (now weeks) ≡ times) × (length (now tows) ≡ times) ⌝ }
-    ensures { λ r. ⌜ r ≡ firstNumber (λ p. isTime (getD (now (timed .entry)) p false) (getD (now (weeks .entry)) p 0) (getD (now (tows .entry)) p 0) week time) times 0 ⌝ }
+    ensures { λ r. ⌜ r ≡ firstNumber (timeIs (now (timed .entry)) (now (weeks .entry)) (now (tows .entry)) week time) times 0 ⌝ }
 {
     let mut p = 0;
     while p < times {
@@ -159,7 +161,7 @@ fn lowest<'a>(
 // The first of `many` messages from number `at` on that is the satellite's, counted from `at`; `many` where none is.
 fn first_of(satellites: &[u8], at: usize, many: usize, satellite: u8) -> usize
     requires { ⌜ at + many ≤ length (now satellites) ⌝ }
-    ensures { λ r. ⌜ r ≡ firstNumber (λ j. eqb (getD (now (satellites .entry)) (at + j) 0) satellite) many 0 ⌝ }
+    ensures { λ r. ⌜ r ≡ firstNumber (sentBy (now (satellites .entry)) at satellite) many 0 ⌝ }
 {
     let mut j = 0;
     while j < many {
@@ -172,7 +174,7 @@ fn first_of(satellites: &[u8], at: usize, many: usize, satellite: u8) -> usize
 }
 
 // The refusal number of a satellite and a time; 0 for none.
-fn asked_refuses(asked: Asked) -> u8
+pub(crate) fn asked_refuses(asked: Asked) -> u8
     ensures { λ r. ⌜ r ≡ refusalOf (timeChecks (askedOf asked)) ⌝ }
 {
     if asked.satellite < 1 {
@@ -190,40 +192,8 @@ fn asked_refuses(asked: Asked) -> u8
     0
 }
 
-// The refusal number of the record, a satellite and a time; 0 for none.
-fn ask_refuses<'a>(
-    current: usize,
-    timed: &'a [bool],
-    weeks: &'a [u16],
-    tows: &'a [u32],
-    counts: &'a [u8],
-    satellites: &'a [u8],
-    statuses: &'a [u8],
-    messages: usize,
-    times: usize,
-    asked: Asked,
-) -> u8
-    requires { ⌜ Fits messages times (record { current = current; timed = now timed; weeks = now weeks; tows = now tows; counts = now counts; satellites = now satellites; statuses = now statuses }) ⌝ }
-    ensures { λ r. ⌜ r ≡ refusalOf (askChecks messages times (record { current = current; timed = now (timed .entry); weeks = now (weeks .entry); tows = now (tows .entry); counts = now (counts .entry); satellites = now (satellites .entry); statuses = now (statuses .entry) }) (askedOf asked)) ⌝ }
-{
-    if !legal(
-        current,
-        timed,
-        weeks,
-        tows,
-        counts,
-        satellites,
-        statuses,
-        messages,
-        times,
-    ) {
-        return 12;
-    }
-    asked_refuses(asked)
-}
-
 // The first message of the satellite among `many` from number `at` on.
-fn find<'a>(
+pub(crate) fn find<'a>(
     satellites: &'a [u8],
     statuses: &'a [u8],
     at: usize,
@@ -244,46 +214,6 @@ fn find<'a>(
     }
 }
 
-// Where the first message of the satellite at that time lies, in a store of so many messages and times.
-pub(crate) fn search<'a>(
-    current: usize,
-    timed: &'a [bool],
-    weeks: &'a [u16],
-    tows: &'a [u32],
-    counts: &'a [u8],
-    satellites: &'a [u8],
-    statuses: &'a [u8],
-    messages: usize,
-    times: usize,
-    asked: Asked,
-) -> MackFound
-    requires { ⌜ Fits messages times (record { current = current; timed = now timed; weeks = now weeks; tows = now tows; counts = now counts; satellites = now satellites; statuses = now statuses }) ⌝ }
-    ensures { λ r. ⌜ meaning-found r ≡ getOf messages times (record { current = current; timed = now (timed .entry); weeks = now (weeks .entry); tows = now (tows .entry); counts = now (counts .entry); satellites = now (satellites .entry); statuses = now (statuses .entry) }) (askedOf asked) ⌝ }
-{
-    let refusal = ask_refuses(
-        current,
-        timed,
-        weeks,
-        tows,
-        counts,
-        satellites,
-        statuses,
-        messages,
-        times,
-        asked,
-    );
-    if refusal != 0 {
-        return MackFound::Refused(refusal);
-    }
-    let place = lowest(timed, weeks, tows, times, asked.week, asked.time);
-    if times <= place {
-        return MackFound::Nothing;
-    }
-    let many = counts[place] as usize;
-    let at = messages * place;
-    find(satellites, statuses, at, many, asked.satellite)
-}
-
 // The refusal number of what is stored, after those of the record, satellite and time; 0 for none.
 fn status_refuses(status: u8, same: bool, count: usize, messages: usize) -> u8
     ensures { λ r. ⌜ r ≡ refusalOf (statusChecks status (same && eqb count messages)) ⌝ }
@@ -299,14 +229,15 @@ fn status_refuses(status: u8, same: bool, count: usize, messages: usize) -> u8
     0
 }
 
-// Where a message goes: a message of another time than the current place's to the next place, which is emptied; one of its own time, or at a place without a time, behind those that are there. Or the refusal number.
+// Where a message goes: a message of another time than the current place's to the next place, which is emptied; one of its own time, or at a place without a
+// time, behind those that are there. Or the refusal number.
 pub(crate) enum Admitted {
     Refused(u8),
     At { place: usize, number: usize },
 }
 
 // The same, where nothing else is refused, from what the current place has.
-fn admit_at(
+pub(crate) fn admit_at(
     messages: usize,
     times: usize,
     current: usize,
@@ -334,45 +265,4 @@ fn admit_at(
         place: current,
         number: here.count,
     }
-}
-
-// Where a message of that satellite, time and status goes, in a store of so many messages and times.
-pub(crate) fn admit<'a>(
-    current: usize,
-    timed: &'a [bool],
-    weeks: &'a [u16],
-    tows: &'a [u32],
-    counts: &'a [u8],
-    satellites: &'a [u8],
-    statuses: &'a [u8],
-    messages: usize,
-    times: usize,
-    asked: Asked,
-    status: u8,
-) -> Admitted
-    requires { ⌜ Fits messages times (record { current = current; timed = now timed; weeks = now weeks; tows = now tows; counts = now counts; satellites = now satellites; statuses = now statuses }) ⌝ }
-    ensures { λ r. ⌜ Admits messages times (record { current = current; timed = now (timed .entry); weeks = now (weeks .entry); tows = now (tows .entry); counts = now (counts .entry); satellites = now (satellites .entry); statuses = now (statuses .entry) }) (askedOf asked) status r ⌝ }
-{
-    let refusal = ask_refuses(
-        current,
-        timed,
-        weeks,
-        tows,
-        counts,
-        satellites,
-        statuses,
-        messages,
-        times,
-        asked,
-    );
-    if refusal != 0 {
-        return Admitted::Refused(refusal);
-    }
-    let here = Place {
-        timed: timed[current],
-        week: weeks[current],
-        tow: tows[current],
-        count: counts[current] as usize,
-    };
-    admit_at(messages, times, current, here, asked, status)
 }

@@ -11,7 +11,7 @@ use lib.ListN.{length, getD, take, length-append}
 use lib.Seq.{take-suc, take-all}
 use lib.Dec.{leb, ltb, eqb}
 use borrow.Author.Tests.{ltb-true, ltb-false, leb-true, not-true, not-false, lt-ltb, le-ltb, lt-leb, le-leb, eq-eqb, ne-eqb}
-use Rattle.texts.specs.Decimal.{isDigit, digitsOnly, isDecimal, numberBehind, number, most, spelt, digits, DigitsSay}
+use Rattle.texts.specs.Decimal.{isDigit, only, digitsOnly, isDecimal, numberBehind, number, most, spelt, digits, DigitsSay}
 
 -- a byte is a digit, or not
 pub below-digits : {c : ℕ} → c < 48 → false ≡ isDigit c
@@ -20,44 +20,60 @@ below-digits {c} h = rw (lt-leb 48 c h)
 pub from-zero : {c : ℕ} → 48 ≤ c → leb c 57 ≡ isDigit c
 from-zero {c} h = rw (le-leb 48 c h)
 
-both : (a b : Bool) → a && b ≡ true → (a ≡ true) × (b ≡ true)
+pub both : (a b : Bool) → a && b ≡ true → (a ≡ true) × (b ≡ true)
 both true b e = (refl, e)
 both false b e = (e, cc)
 
 pub digit-bounds : {c : ℕ} → isDigit c ≡ true → (48 ≤ c) × (c ≤ 57)
 digit-bounds {c} e = let h = both (leb 48 c) (leb c 57) e in (leb-true 48 c (h .0), leb-true c 57 (h .1))
 
--- texts of digits
-only-append : (s t : List ℕ) → digitsOnly (s ++ t) ≡ digitsOnly s && digitsOnly t
-unfolding digitsOnly
-only-append [] t = refl
-only-append (c ∷ s) t = go (isDigit c) (only-append s t)
-  where
-    go : (b : Bool) → digitsOnly (s ++ t) ≡ digitsOnly s && digitsOnly t → b && digitsOnly (s ++ t) ≡ (b && digitsOnly s) && digitsOnly t
-    go true e = e
-    go false e = refl
+-- a test of every byte of a text
+module _ (test : ℕ → Bool) where
+  only-append : (s t : List ℕ) → only test (s ++ t) ≡ only test s && only test t
+  unfolding only
+  only-append [] t = refl
+  only-append (c ∷ s) t = go (test c) (only-append s t)
+    where
+      go : (b : Bool) → only test (s ++ t) ≡ only test s && only test t → b && only test (s ++ t) ≡ (b && only test s) && only test t
+      go true e = e
+      go false e = refl
 
-pub digits-more : (s : List ℕ) (i : ℕ) {b : Bool} → i < length s → digitsOnly (take i s) ≡ true → b ≡ isDigit (getD s i 0) → not b ≡ false → digitsOnly (take (i + 1) s) ≡ true
-unfolding digitsOnly
-digits-more s i h e f t = let d : isDigit (getD s i 0) ≡ true = sym f ∙ not-false _ t in rw (add-one i, take-suc s i 0 h, only-append, e, d)
+  pub only-none : (s : List ℕ) → only test (take 0 s) ≡ true
+  unfolding only
+  only-none [] = refl
+  only-none (c ∷ s) = refl
+
+  pub only-more : (s : List ℕ) (i : ℕ) → i < length s → only test (take i s) ≡ true → test (getD s i 0) ≡ true → only test (take (i + 1) s) ≡ true
+  unfolding only
+  only-more s i h e d = rw (add-one i, take-suc s i 0 h, only-append, e, d)
+
+  pub only-not : (s : List ℕ) (i : ℕ) → i < length s → test (getD s i 0) ≡ false → only test s ≡ false
+  unfolding only
+  only-not [] i h e = absurd (not-suc-le-zero h)
+  only-not (c ∷ s) zero h e = rw e
+  only-not (c ∷ s) (suc i) h e = go (test c) (only-not s i (le-of-suc-le-suc h) e)
+    where
+      go : (b : Bool) → only test s ≡ false → b && only test s ≡ false
+      go true e = e
+      go false e = refl
+
+  pub only-at : (s : List ℕ) (i : ℕ) → only test s ≡ true → i < length s → test (getD s i 0) ≡ true
+  unfolding only
+  only-at [] i e h = absurd (not-suc-le-zero h)
+  only-at (c ∷ s) zero e h = both (test c) (only test s) e .0
+  only-at (c ∷ s) (suc i) e h = only-at s i (both (test c) (only test s) e .1) (le-of-suc-le-suc h)
+
+-- texts of digits
+pub digits-more :
+    (s : List ℕ) (i : ℕ) {b : Bool} → i < length s → digitsOnly (take i s) ≡ true → b ≡ isDigit (getD s i 0) → not b ≡ false
+    → digitsOnly (take (i + 1) s) ≡ true
+digits-more s i h e f t = only-more isDigit s i h e (sym f ∙ not-false _ t)
 
 pub not-digit : (s : List ℕ) (i : ℕ) {b : Bool} → i < length s → b ≡ isDigit (getD s i 0) → not b ≡ true → false ≡ isDecimal s
-unfolding digitsOnly
-not-digit s i h e t = rw (ne-eqb (length s) 0 (λ z. omega arith), out s i h (sym e ∙ not-true _ t))
-  where
-    out : (s : List ℕ) (i : ℕ) → i < length s → isDigit (getD s i 0) ≡ false → digitsOnly s ≡ false
-    out [] i h e = absurd (not-suc-le-zero h)
-    out (c ∷ s) zero h e = rw e
-    out (c ∷ s) (suc i) h e = go (isDigit c) (out s i (le-of-suc-le-suc h) e)
-      where
-        go : (b : Bool) → digitsOnly s ≡ false → b && digitsOnly s ≡ false
-        go true e = e
-        go false e = refl
+not-digit s i h e t = rw (ne-eqb (length s) 0 (λ z. omega arith), only-not isDigit s i h (sym e ∙ not-true _ t))
 
 pub no-digits : (s : List ℕ) → digitsOnly (take 0 s) ≡ true
-unfolding digitsOnly
-no-digits [] = refl
-no-digits (c ∷ s) = refl
+no-digits s = only-none isDigit s
 
 pub none-given : (s : List ℕ) → length s ≡ 0 → false ≡ isDecimal s
 none-given s e = rw (eq-eqb (length s) 0 e)
@@ -69,10 +85,7 @@ pub decimal-digits : (s : List ℕ) {b : Bool} → b ≡ isDecimal s → not b �
 decimal-digits s e t = both (not (eqb (length s) 0)) (digitsOnly s) (sym e ∙ not-false _ t) .1
 
 pub digit-at : (s : List ℕ) (i : ℕ) → digitsOnly s ≡ true → i < length s → (48 ≤ getD s i 0) × (getD s i 0 ≤ 57)
-unfolding digitsOnly
-digit-at [] i e h = absurd (not-suc-le-zero h)
-digit-at (c ∷ s) zero e h = digit-bounds (both (isDigit c) (digitsOnly s) e .0)
-digit-at (c ∷ s) (suc i) e h = digit-at s i (both (isDigit c) (digitsOnly s) e .1) (le-of-suc-le-suc h)
+digit-at s i e h = digit-bounds (only-at isDigit s i e h)
 
 -- what they say
 behind-append : (n : ℕ) (s t : List ℕ) → numberBehind n (s ++ t) ≡ numberBehind (numberBehind n s) t
@@ -129,7 +142,7 @@ digits-all P one ten (suc k) n h = go (ltb n 10) refl (λ a. digits-all P one te
     go false e ih = let m = ltb-false n 10 e in ten n m (ih (omega arith))
 
 digits-only : (n : ℕ) → digitsOnly (digits n) ≡ true
-unfolding digitsOnly
+unfolding only
 digits-only n = digits-all (λ n. digitsOnly (digits n) ≡ true) one ten (suc n) n (omega arith)
   where
     digit : (d : ℕ) → d < 10 → isDigit (48 + d) ≡ true
@@ -142,7 +155,7 @@ digits-only n = digits-all (λ n. digitsOnly (digits n) ≡ true) one ten (suc n
     one n h = rw (digits-one n h) (last n h)
 
     ten : (n : ℕ) → 10 ≤ n → digitsOnly (digits (n / 10)) ≡ true → digitsOnly (digits n) ≡ true
-    ten n h e = rw (digits-ten n h, only-append, e) (last (n % 10) (omega arith))
+    ten n h e = rw (digits-ten n h, only-append isDigit, e) (last (n % 10) (omega arith))
 
 number-digits : (n : ℕ) → number (digits n) ≡ n
 number-digits n = digits-all (λ n. number (digits n) ≡ n) one ten (suc n) n (omega arith)

@@ -5,12 +5,18 @@ use mathlib.Core.List.{List, [], _∷_, _++_, append-assoc}
 use Prim.Native.Nat.{ℕ, _+_, _/_, _%_, _≤_, _<_}
 use native.Mathlib.Omega.{arith}
 use native.Mathlib.Numerals.{add-one}
-use lib.ListN.{length, take, drop, set, length-append, length-drop, length-set}
-use lib.Seq.{append-snoc, take-at, drop-append-add, drop-drop, set-split, length-take-le}
+use lib.ListN.{length, getD, take, drop, set, length-append, length-drop, length-set}
+use lib.Seq.{paste, paste-suc, take-length, append-snoc, take-at, drop-append-add, drop-drop, set-split, length-take-le}
 use Rattle.texts.specs.Decimal.{digits, most}
-use Rattle.texts.specs.Lines.{Part, bytes, line, put, Written, written, Counts}
-use Rattle.texts.specs.LinesInner.{Begun}
+use Rattle.layouts.specs.Lists.{put as putAt}
+use Rattle.texts.specs.Lines.{Part, bytes, line, Written, written}
+use Rattle.texts.specs.inner.Begun.{Begun}
+use Rattle.texts.specs.inner.Counts.{Counts}
 use Rattle.texts.proofs.Decimals.{digits-one, digits-ten, digits-few}
+
+-- bytes in a buffer, from `at` on
+abbrev pub put : List ℕ → ℕ → List ℕ → List ℕ
+put out at s = putAt out at (length s) s
 
 -- what stands before the end of what was put
 before : (m : List ℕ) (at : ℕ) (s : List ℕ) → at ≤ length m → length (take at m ++ s) ≡ at + length s
@@ -31,6 +37,14 @@ put-put m at s t h =
 
 pub length-put : (m : List ℕ) (at : ℕ) (s : List ℕ) → at + length s ≤ length m → length (put m at s) ≡ length m
 length-put m at s h = length-append (take at m ++ s) (drop (at + length s) m) ∙ (let b = before m at s (omega arith) in let d = length-drop (at + length s) m in omega arith)
+
+-- byte by byte
+module _ (m : List ℕ) (at : ℕ) (s : List ℕ) (k : ℕ) {out : List ℕ} (e : out ≡ paste m at s k) where
+  pub paste-more : {x : ℕ} → x ≡ getD s k 0 → k < length s → at + length s ≤ length m → set out (at + k) x ≡ paste m at s (k + 1)
+  paste-more q h g = rw (e, q, add-one k) (paste-suc m at s k 0 (omega arith) (omega arith))
+
+  pub paste-done : k ≡ length s → out ≡ put m at s
+  paste-done q = rw q at e ∙ ap (λ (l : List ℕ). take at m ++ l ++ drop (at + length s) m) (take-length s)
 
 -- a byte
 pub set-put : (m : List ℕ) (at d : ℕ) → at + 1 ≤ length m → set m at d ≡ put m at (d ∷ [])
@@ -107,3 +121,7 @@ line-done m ps {out} {r} b =
   where
     go : r ≡ length (joined [] ps) → out ≡ put m 0 (joined [] ps) → _≡_ {A = Written} (record { many = r; out = out }) (record { many = length (joined [] ps); out = put m 0 (joined [] ps) })
     go p q = rw (p, q)
+
+-- the part of a buffer that was put at its start
+pub taken : (m s : List ℕ) {out : List ℕ} {n : ℕ} → out ≡ put m 0 s → n ≡ length s → take n out ≡ s
+taken m s e h = rw (e, h) (take-at s (drop (0 + length s) m) (length s) refl)

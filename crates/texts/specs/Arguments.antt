@@ -4,8 +4,9 @@ use Prim.Native.Nat.{ℕ, min}
 use mathlib.Core.Path.{_≡_}
 use mathlib.Core.List.{List, [], _∷_, _++_}
 use mathlib.Core.Bool.{not}
-use lib.Dec.{ltb, eqb}
+use lib.Dec.{eqb}
 use Rattle.layouts.specs.Answer.{Answer, refused, gives, Check, _when_, refusal, answered}
+use Rattle.layouts.specs.Gst.{svnGstChecks}
 use Rattle.layouts.specs.Meaning.{meaning-number}
 use Rattle.layouts.specs.declared.answer.Number.{Number}
 use Rattle.texts.specs.Decimal.{isDecimal, number, most}
@@ -17,11 +18,6 @@ abbrev pub textChecks : ℕ → List ℕ → List ℕ → List ℕ → List Chec
 textChecks many satellite week time =
     7 when not (eqb many 3) ∷ 7 when not (isDecimal satellite) ∷ 7 when not (isDecimal week) ∷ 7 when not (isDecimal time) ∷ []
 
--- "digits of any length that exceed a range are 2, 3 or 4"
-abbrev pub rangeChecks : ℕ → ℕ → ℕ → List Check
-rangeChecks satellite week time =
-    2 when ltb satellite 1 ∷ 2 when ltb 36 satellite ∷ 3 when ltb 4095 week ∷ 4 when ltb 604799 time ∷ []
-
 abbrev pub meaning-arguments : Arguments → Answer
 meaning-arguments (Refused n) = refused n
 meaning-arguments (Given satellite week time) = gives (satellite ∷ week ∷ time ∷ [])
@@ -32,12 +28,15 @@ ReadDecimal text r = meaning-number r ≡ answered (refusal (7 when not (isDecim
 
 -- the three numbers, where they are in range
 abbrev pub InRange : ℕ → ℕ → ℕ → Arguments → Type 0
-InRange satellite week time r = meaning-arguments r ≡ answered (refusal (rangeChecks satellite week time)) (gives (satellite ∷ week ∷ time ∷ []))
+InRange satellite week time r = meaning-arguments r ≡ answered (refusal (svnGstChecks satellite week time)) (gives (satellite ∷ week ∷ time ∷ []))
 
--- "Satellite, week and first time are program arguments, decimal": how many arguments there are, and the three texts
-abbrev pub ReadArguments : ℕ → List ℕ → List ℕ → List ℕ → Arguments → Type 0
-ReadArguments many satellite week time r =
-    meaning-arguments r
-    ≡ answered
-    (refusal (textChecks many satellite week time ++ rangeChecks (number satellite) (number week) (number time)))
+-- "Satellite, week and first time are program arguments, decimal": how many arguments there are, and the three texts. "digits of any length that exceed a
+-- range are 2, 3 or 4"
+abbrev pub argumentsAnswer : ℕ → List ℕ → List ℕ → List ℕ → Answer
+argumentsAnswer many satellite week time =
+    answered
+    (refusal (textChecks many satellite week time ++ svnGstChecks (number satellite) (number week) (number time)))
     (gives (number satellite ∷ number week ∷ number time ∷ []))
+
+abbrev pub ReadArguments : ℕ → List ℕ → List ℕ → List ℕ → Arguments → Type 0
+ReadArguments many satellite week time r = meaning-arguments r ≡ argumentsAnswer many satellite week time

@@ -11,9 +11,13 @@ use lib.Dec.{leb, ltb, eqb}
 abbrev pub isDigit : ℕ → Bool
 isDigit c = leb 48 c && leb c 57
 
-unfoldable pub digitsOnly : List ℕ → Bool
-digitsOnly [] = true
-digitsOnly (c ∷ s) = isDigit c && digitsOnly s
+-- every byte of a text passes a test
+unfoldable pub only : (ℕ → Bool) → List ℕ → Bool
+only test [] = true
+only test (c ∷ s) = test c && only test s
+
+abbrev pub digitsOnly : List ℕ → Bool
+digitsOnly s = only isDigit s
 
 -- "digits only, at least one"
 abbrev pub isDecimal : List ℕ → Bool

@@ -1,4 +1,6 @@
 pub mod Arguments
 pub mod Decimal
+pub mod Hexadecimal
 pub mod Lines
-pub mod LinesInner
+pub mod Puts
+pub mod inner

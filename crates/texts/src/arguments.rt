@@ -1,5 +1,7 @@
 // The arguments of a page replay: decimal numbers.
 use layouts::answer::Number;
+use layouts::gst;
+use layouts::numbers;
 ghost use mathlib.Core.Path.{_≡_};
 ghost use mathlib.Core.Bool.{true};
 ghost use Prim.Native.Nat.{_+_, _*_, _≤_, min};
@@ -9,12 +11,6 @@ ghost use Rattle.texts.specs.Arguments.{ReadDecimal, InRange, ReadArgume
 pub enum Arguments {
     Refused(u8),
     Given { satellite: u8, week: u16, time: u32 },
-}
-
-fn wide(c: u8) -> u64
-    ensures { λ r. ⌜ r ≡ c ⌝ }
-{
-    c as u64
 }
 
 fn is_digit(c: u8) -> bool
@@ -65,7 +61,7 @@ fn value(text: &[u8]) -> u64
     let mut n: u64 = 0;
     let mut i = 0;
     while i < text.len() {
-        n = one_more(n, wide(text[i]) - 48);
+        n = one_more(n, numbers::wide(text[i]) - 48);
         i += 1;
     }
     n
@@ -85,17 +81,9 @@ pub fn decimal(text: &[u8]) -> Number
 fn in_range(satellite: u64, week: u64, time: u64) -> Arguments
     ensures { λ r. ⌜ InRange satellite week time r ⌝ }
 {
-    if satellite < 1 {
-        return Arguments::Refused(2);
-    }
-    if 36 < satellite {
-        return Arguments::Refused(2);
-    }
-    if 4095 < week {
-        return Arguments::Refused(3);
-    }
-    if 604799 < time {
-        return Arguments::Refused(4);
+    let refusal = gst::refuses(satellite, week, time);
+    if refusal != 0 {
+        return Arguments::Refused(refusal);
     }
     Arguments::Given {
         satellite: satellite as u8,

@@ -1,3 +1,5 @@
-// The texts of the program `replay`: its arguments and its lines.
+// Texts of programs: decimal and hexadecimal numbers, arguments, and the lines of a page replay.
 pub mod arguments;
+pub mod hexadecimal;
 pub mod lines;
+pub mod put;

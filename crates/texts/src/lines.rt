@@ -1,38 +1,16 @@
-// The lines that a page replay writes. Each is put at the start of the caller's 160 bytes, of which the longest takes 139.
+// The lines that a page replay writes. Each is put at the start of the caller's 256 bytes, of which the longest takes 139; or at any place of a lent buffer
+// that has room for it (`.._at`).
+use crate::put;
+use crate::put::End;
 ghost use mathlib.Core.Path.{_≡_};
 ghost use mathlib.Core.List.{List, [], _∷_, _++_};
 ghost use Prim.Native.Nat.{ℕ, _+_, _≤_};
 ghost use lib.ListN.{length};
 ghost use Rattle.texts.specs.Decimal.{digits};
-ghost use Rattle.texts.specs.LinesInner.{Begun};
-ghost use Rattle.texts.specs.Lines.{put, Counts, SubframeLine, DsmLine, TotalsLine, RefusedLine};
-
-// The words go to `at`. Answers where they end.
-fn put_words(out: &mut [u8], at: usize, words: &[u8]) -> usize
-    requires { ⌜ at + length (now words) ≤ length (now out) ⌝ }
-    ensures { λ r. ⌜ (now (out .exit) ≡ put (now (out .entry)) at (now (words .entry))) × (r ≡ at + length (now (words .entry))) ⌝ }
-{
-    let mut i = 0;
-    while i < words.len() {
-        out[at + i] = words[i];
-        i += 1;
-    }
-    at + words.len()
-}
-
-// The number's digits go to `at`. Answers where they end.
-fn put_number(out: &mut [u8], at: usize, n: u64) -> usize
-    requires { ⌜ at + length (digits n) ≤ length (now out) ⌝ }
-    ensures { λ r. ⌜ (now (out .exit) ≡ put (now (out .entry)) at (digits n)) × (r ≡ at + length (digits n)) ⌝ }
-{
-    if n < 10 {
-        out[at] = 48 + n as u8;
-        return at + 1;
-    }
-    let end = put_number(out, at, n / 10);
-    out[end] = 48 + (n % 10) as u8;
-    end + 1
-}
+ghost use Rattle.texts.specs.inner.Begun.{Begun};
+ghost use Rattle.texts.specs.inner.Counts.{Counts};
+ghost use Rattle.texts.specs.Lines.{SubframeLine, DsmLine, TotalsLine, RefusedLine};
+ghost use Rattle.texts.specs.Lines.{SubframeLineAt, DsmLineAt, TotalsLineAt, RefusedLineAt};
 
 // Words and the number behind them go to `at`. Answers where they end.
 fn put_part(out: &mut [u8], at: usize, words: &[u8], n: u64) -> usize
@@ -40,8 +18,8 @@ fn put_part(out: &mut [u8], at: usize, words: &[u8], n: u64) -> usize
     ensures { λ r. ⌜ ((m s : List ℕ) → Begun m s (now (out .entry)) at → Begun m (s ++ (now (words .entry) ++ digits n)) (now (out .exit)) r) ⌝ }
     ensures { λ r. ⌜ r ≤ at + length (now (words .entry)) + 20 ⌝ }
 {
-    let end = put_words(out, at, words);
-    put_number(out, end, n)
+    let end = put::put_words(out, at, words);
+    put::put_number(out, end, n)
 }
 
 // The newline. Answers how many bytes the line has.
@@ -55,7 +33,7 @@ fn put_end(out: &mut [u8], at: usize) -> usize
 }
 
 // `S satellite week time`. Answers how many bytes the line has, as the others do.
-pub fn subframe(out: &mut [u8; 160], satellite: u8, week: u16, time: u32) -> usize
+pub fn subframe(out: &mut [u8; 256], satellite: u8, week: u16, time: u32) -> usize
     ensures { λ r. ⌜ SubframeLine (now (out .entry)) satellite week time r (now (out .exit)) ⌝ }
     ensures { λ r. ⌜ Counts r (now (out .exit)) ⌝ }
 {
@@ -67,7 +45,7 @@ pub fn subframe(out: &mut [u8; 160], satellite: u8, week: u16, time: u32) -> usi
 }
 
 // `D id n`.
-pub fn dsm(out: &mut [u8; 160], id: u8, bytes: usize) -> usize
+pub fn dsm(out: &mut [u8; 256], id: u8, bytes: usize) -> usize
     ensures { λ r. ⌜ DsmLine (now (out .entry)) id bytes r (now (out .exit)) ⌝ }
     ensures { λ r. ⌜ Counts r (now (out .exit)) ⌝ }
 {
@@ -79,7 +57,7 @@ pub fn dsm(out: &mut [u8; 160], id: u8, bytes: usize) -> usize
 
 // `pages .. skipped .. subframes .. dsms .. tail ..`, the last line.
 pub fn totals(
-    out: &mut [u8; 160],
+    out: &mut [u8; 256],
     pages: u64,
     skipped: u64,
     subframes: u64,
@@ -99,11 +77,55 @@ pub fn totals(
 }
 
 // `refused N`.
-pub fn refused(out: &mut [u8; 160], n: u8) -> usize
+pub fn refused(out: &mut [u8; 256], n: u8) -> usize
     ensures { λ r. ⌜ RefusedLine (now (out .entry)) n r (now (out .exit)) ⌝ }
     ensures { λ r. ⌜ Counts r (now (out .exit)) ⌝ }
 {
     let view: &mut [u8] = out;
     let a = put_part(view, 0, b"refused ", n as u64);
     put_end(view, a)
+}
+
+// The same lines at any place. Refuses 1 where there is no room for all of it.
+pub fn subframe_at(out: &mut [u8], at: usize, satellite: u8, week: u16, time: u32) -> End
+    ensures { λ r. ⌜ SubframeLineAt (now (out .entry)) at satellite week time r (now (out .exit)) ⌝ }
+{
+    let mut text = [0u8; 256];
+    let many = subframe(&mut text, satellite, week, time);
+    put::words(out, at, &text[..many])
+}
+
+// `D id n`.
+pub fn dsm_at(out: &mut [u8], at: usize, id: u8, bytes: usize) -> End
+    ensures { λ r. ⌜ DsmLineAt (now (out .entry)) at id bytes r (now (out .exit)) ⌝ }
+{
+    let mut text = [0u8; 256];
+    let many = dsm(&mut text, id, bytes);
+    put::words(out, at, &text[..many])
+}
+
+// The last line.
+pub fn totals_at(
+    out: &mut [u8],
+    at: usize,
+    pages: u64,
+    skipped: u64,
+    subframes: u64,
+    dsms: u64,
+    tail: usize,
+) -> End
+    ensures { λ r. ⌜ TotalsLineAt (now (out .entry)) at pages skipped subframes dsms tail r (now (out .exit)) ⌝ }
+{
+    let mut text = [0u8; 256];
+    let many = totals(&mut text, pages, skipped, subframes, dsms, tail);
+    put::words(out, at, &text[..many])
+}
+
+// `refused N`.
+pub fn refused_at(out: &mut [u8], at: usize, n: u8) -> End
+    ensures { λ r. ⌜ RefusedLineAt (now (out .entry)) at n r (now (out .exit)) ⌝ }
+{
+    let mut text = [0u8; 256];
+    let many = refused(&mut text, n);
+    put::words(out, at, &text[..many])
 }

@@ -2,10 +2,11 @@
 -- Assumes nothing.
 use lib.ListN.{length-set}
 use mathlib.Core.Path.{_≡_, refl, ap, _∙_}
-use mathlib.Core.List.{List, _++_}
+use mathlib.Core.List.{List}
 use Prim.Native.Nat.{ℕ, _+_, _*_, _≤_, _-_}
 use native.Mathlib.Numerals.{add-one}
-use lib.ListN.{length, take, drop}
+use lib.ListN.{length}
+use Rattle.storage.specs.Store.{put}
 use lib.Seq.{paste, paste-zero, paste-suc, take-all}
 use native.Mathlib.Omega.{arith}
 use Rattle.storage.proofs.mack_storage.copy_message.Statement.{statement}
@@ -21,7 +22,7 @@ mul-at : tie.Need-mul-at Inv-loop μ-loop
 mul-at c = omega arith
 
 loop-holds : tie.Need-loop-holds Inv-loop μ-loop
-loop-holds c = let m = c .args .memory .now in (omega arith, refl, paste-zero m (60 * c .args .i) (c .args .message .now))
+loop-holds c = (omega arith, refl, paste-zero (c .args .memory .now) (60 * c .args .i) (c .args .message .now))
 
 shared-slice-read-memory : tie.Need-shared-slice-read-memory Inv-loop μ-loop
 shared-slice-read-memory c = omega arith
@@ -39,13 +40,22 @@ loop-less : tie.Need-loop-less Inv-loop μ-loop
 loop-less c = omega arith
 
 loop-again : tie.Need-loop-again Inv-loop μ-loop
-loop-again c = let a = c .before .before .before .args in let h = c .before .before .loop in (omega arith, length-set (h .memory) _ _ ∙ h .inv .1, rw (h .inv .2, add-one (h .k)) (paste-suc (a .memory .now) (60 * a .i) (a .message .now) (h .k) 0 (omega arith) (omega arith)))
+loop-again c =
+    let a = c .before .before .before .args in
+    let h = c .before .before .loop in
+    let next = paste-suc (a .memory .now) (60 * a .i) (a .message .now) (h .k) 0 (omega arith) (omega arith) in
+    (omega arith, length-set (h .memory) _ _ ∙ h .inv .1, rw (h .inv .2, add-one (h .k)) next)
 
 same-length : tie.Need-same-length Inv-loop μ-loop
 same-length c = omega arith
 
 returns : tie.Need-returns Inv-loop μ-loop
-returns c = let a = c .before .before .args in let h = c .before .loop in let end : h .k ≡ 60 = omega arith in rw end at (h .inv .2) ∙ ap (λ (l : List ℕ). take (60 * a .i) (a .memory .now) ++ l ++ drop (60 * a .i + 60) (a .memory .now)) (take-all 60 (a .message .now) (omega arith))
+returns c =
+    let a = c .before .before .args in
+    let h = c .before .loop in
+    let end : h .k ≡ 60 = omega arith in
+    rw end at (h .inv .2)
+    ∙ ap (λ (l : List ℕ). put (a .memory .now) (a .i) l) (take-all 60 (a .message .now) (omega arith))
 
 pub copy-message-spec : {M : Type 1} → statement M
 copy-message-spec =

@@ -44,7 +44,7 @@ loop-again : tie.Need-loop-again Inv-loop μ-loop
 loop-again c = (omega arith, search entries-more)
 
 returns : tie.Need-returns Inv-loop μ-loop
-returns c = let a = c .before .before .before .before .args in let h = c .before .loop in entries-end (a .satellites .now) (a .statuses .now) (a .at) (h .i) (a .many) (h .inv .1) (omega arith) (omega arith)
+returns c = search entries-end
 
 pub entries-legal-spec : {M : Type 1} → statement M
 entries-legal-spec =

@@ -9,7 +9,7 @@ first-of-requires : tie.Need-first-of-requires
 first-of-requires c κs = search needs
 
 returns : tie.Need-returns
-returns c = let a = c .before .before .before .before .args in find-none (a .satellites .now) (a .statuses .now) (a .at) (a .many) (a .satellite) (c .before .first-of .ensures) (c .if1 .taken)
+returns c = search find-none
 
 add-i : tie.Need-add-i
 add-i c = search needs
@@ -21,7 +21,7 @@ shared-slice-read-t11 : tie.Need-shared-slice-read-t11
 shared-slice-read-t11 c = search needs
 
 returns-2 : tie.Need-returns-2
-returns-2 c = let a = c .before .before .before .before .before .args in find-at (a .satellites .now) (a .statuses .now) (a .at) (a .many) (a .satellite) (c .before .before .first-of .ensures) (c .before .if1 .left)
+returns-2 c = search find-at
 
 pub find-spec : {M : Type 1} → statement M
 find-spec =

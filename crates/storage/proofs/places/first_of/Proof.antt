@@ -6,7 +6,8 @@ use native.Mathlib.Omega.{arith}
 use borrow.Author.Needs.{needs}
 use Rattle.storage.specs.Store.{first}
 use Rattle.storage.proofs.Searches.{first-start}
-use Rattle.storage.proofs.StoreRecord.{sentBy, sent-here, sent-later, sent-none}
+use Rattle.storage.specs.StoreInner.{sentBy}
+use Rattle.storage.proofs.StoreRecord.{sent-here, sent-later, sent-none}
 use Rattle.storage.proofs.places.first_of.Statement.{statement}
 use Rattle.storage.proofs.places.first_of.Tie as tie
 
@@ -26,7 +27,7 @@ shared-slice-read-if1 : tie.Need-shared-slice-read-if1 Inv-loop μ-loop
 shared-slice-read-if1 c = search needs
 
 returns : tie.Need-returns Inv-loop μ-loop
-returns c = let a = c .before .before .before .before .args in let h = c .before .before .before .loop in sent-here (a .satellites .now) (a .at) (a .satellite) (h .j) (a .many) (h .inv .1) (omega arith) (c .if1 .taken)
+returns c = search sent-here
 
 add-j : tie.Need-add-j Inv-loop μ-loop
 add-j c = search needs
@@ -35,10 +36,10 @@ loop-less : tie.Need-loop-less Inv-loop μ-loop
 loop-less c = search needs
 
 loop-again : tie.Need-loop-again Inv-loop μ-loop
-loop-again c = let a = c .before .before .before .before .args in let h = c .before .before .before .loop in (omega arith, sent-later (a .satellites .now) (a .at) (a .satellite) (h .j) (a .many) (h .inv .1) (omega arith) (c .if1 .left))
+loop-again c = (omega arith, search sent-later)
 
 returns-2 : tie.Need-returns-2 Inv-loop μ-loop
-returns-2 c = let a = c .before .before .args in let h = c .before .loop in sent-none (a .satellites .now) (a .at) (a .satellite) (h .j) (a .many) (h .inv .1) (omega arith) (omega arith)
+returns-2 c = search sent-none
 
 pub first-of-spec : {M : Type 1} → statement M
 first-of-spec =

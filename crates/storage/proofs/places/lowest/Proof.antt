@@ -6,12 +6,14 @@ use native.Mathlib.Omega.{arith}
 use borrow.Author.Needs.{needs}
 use Rattle.storage.specs.Store.{first}
 use Rattle.storage.proofs.Searches.{first-start}
-use Rattle.storage.proofs.StoreRecord.{timeIs, time-here, time-later, time-nowhere}
+use Rattle.storage.specs.StoreInner.{timeIs}
+use Rattle.storage.proofs.StoreRecord.{time-here, time-later, time-nowhere}
 use Rattle.storage.proofs.places.lowest.Statement.{statement}
 use Rattle.storage.proofs.places.lowest.Tie as tie
 
 abbrev Inv-loop : tie.InvT-loop
-Inv-loop timed weeks tows times week time p₀ p = (p ≤ times) × (first (timeIs timed weeks tows week time) (times - p) p ≡ first (timeIs timed weeks tows week time) times 0)
+Inv-loop timed weeks tows times week time p₀ p =
+    (p ≤ times) × (first (timeIs timed weeks tows week time) (times - p) p ≡ first (timeIs timed weeks tows week time) times 0)
 
 abbrev μ-loop : tie.MeasureT-loop
 μ-loop timed weeks tows times week time p₀ p = times - p
@@ -38,7 +40,7 @@ has-time-requires : tie.Need-has-time-requires Inv-loop μ-loop
 has-time-requires c κs = search needs
 
 returns : tie.Need-returns Inv-loop μ-loop
-returns c = let a = c .before .before .before .before .before .before .before .before .before .before .args in let h = c .before .before .before .before .before .before .loop in time-here (a .timed .now) (a .weeks .now) (a .tows .now) (a .week) (a .time) (h .p) (a .times) (h .inv .1) (omega arith) (c .before .has-time .ensures) (c .if1 .taken)
+returns c = search time-here
 
 add-p : tie.Need-add-p Inv-loop μ-loop
 add-p c = search needs
@@ -47,10 +49,10 @@ loop-less : tie.Need-loop-less Inv-loop μ-loop
 loop-less c = search needs
 
 loop-again : tie.Need-loop-again Inv-loop μ-loop
-loop-again c = let a = c .before .before .before .before .before .before .before .before .before .before .args in let h = c .before .before .before .before .before .before .loop in (omega arith, time-later (a .timed .now) (a .weeks .now) (a .tows .now) (a .week) (a .time) (h .p) (a .times) (h .inv .1) (omega arith) (c .before .has-time .ensures) (c .if1 .left))
+loop-again c = (omega arith, search time-later)
 
 returns-2 : tie.Need-returns-2 Inv-loop μ-loop
-returns-2 c = let a = c .before .before .before .before .before .args in let h = c .before .loop in time-nowhere (a .timed .now) (a .weeks .now) (a .tows .now) (a .week) (a .time) (h .p) (a .times) (h .inv .1) (omega arith) (omega arith)
+returns-2 c = search time-nowhere
 
 pub lowest-spec : {M : Type 1} → statement M
 lowest-spec =

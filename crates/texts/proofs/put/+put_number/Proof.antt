@@ -8,11 +8,11 @@ use Rattle.texts.proofs.Written.{one-digit, digit-more}
 use Prim.Native.Nat.{ℕ, _<_}
 use borrow.Fn.Kinds.{In}
 use borrow.Fn.PlainCycle.{Measures, is, falls, and}
-use Rattle.texts.proofs.lines.put_number.Reads as put-number
-use Rattle.texts.proofs.lines.put_number.Kinds as put-number-kinds
-use Rattle.texts.proofs.lines.+put_number.Lts-put_number as put-number-lts
-use Rattle.texts.proofs.lines.+put_number.{statement}
-use Rattle.texts.proofs.lines.+put_number.Tie.{close}
+use Rattle.texts.proofs.put.put_number.Reads as put-number
+use Rattle.texts.proofs.put.put_number.Kinds as put-number-kinds
+use Rattle.texts.proofs.put.+put_number.Lts-put_number as put-number-lts
+use Rattle.texts.proofs.put.+put_number.{statement}
+use Rattle.texts.proofs.put.+put_number.Tie.{close}
 
 abbrev μ-put-number : Measures 1 put-number-kinds.ps ℕ
 μ-put-number κs a = a .1 .1 .0

@@ -1,14 +1,13 @@
--- `lines::put_words`: before each turn the first `i` bytes are put.
+-- `put::put_words`: before each turn the first `i` bytes are put.
 -- Assumes nothing.
-use mathlib.Core.Path.{_≡_, refl, ap, _∙_}
-use mathlib.Core.List.{List, _++_}
-use Prim.Native.Nat.{ℕ, _+_, _≤_, _-_}
-use native.Mathlib.Numerals.{add-one}
+use mathlib.Core.Path.{_≡_, refl, _∙_}
+use Prim.Native.Nat.{_≤_, _-_}
 use native.Mathlib.Omega.{arith}
-use lib.ListN.{length, take, drop, length-set}
-use lib.Seq.{paste, paste-zero, paste-suc, take-length}
-use Rattle.texts.proofs.lines.put_words.Statement.{statement}
-use Rattle.texts.proofs.lines.put_words.Tie as tie
+use lib.ListN.{length, length-set}
+use lib.Seq.{paste, paste-zero}
+use Rattle.texts.proofs.Written.{paste-more, paste-done}
+use Rattle.texts.proofs.put.put_words.Statement.{statement}
+use Rattle.texts.proofs.put.put_words.Tie as tie
 
 abbrev Inv-loop : tie.InvT-loop
 Inv-loop out₀ at words i₀ out i = (i ≤ length words) × (length out ≡ length out₀) × (out ≡ paste out₀ at words i)
@@ -38,7 +37,8 @@ loop-again : tie.Need-loop-again Inv-loop μ-loop
 loop-again c =
     let a = c .before .before .before .args in
     let h = c .before .before .loop in
-    (omega arith, length-set (h .out) _ _ ∙ h .inv .1, rw (h .inv .2, add-one (h .i)) (paste-suc (a .out .now) (a .at) (a .words .now) (h .i) 0 (omega arith) (omega arith)))
+    let next = paste-more (a .out .now) (a .at) (a .words .now) (h .i) (h .inv .2) refl (omega arith) (omega arith) in
+    (omega arith, length-set (h .out) _ _ ∙ h .inv .1, next)
 
 add-result : tie.Need-add-result Inv-loop μ-loop
 add-result c = omega arith
@@ -50,8 +50,7 @@ returns : tie.Need-returns Inv-loop μ-loop
 returns c =
     let a = c .before .before .args in
     let h = c .before .loop in
-    let end : h .i ≡ length (a .words .now) = omega arith in
-    (rw end at (h .inv .2) ∙ ap (λ (l : List ℕ). take (a .at) (a .out .now) ++ l ++ drop (a .at + length (a .words .now)) (a .out .now)) (take-length (a .words .now)), refl)
+    (paste-done (a .out .now) (a .at) (a .words .now) (h .i) (h .inv .2) (omega arith), refl)
 
 pub put-words-spec : {M : Type 1} → statement M
 put-words-spec =

@@ -1,0 +1,35 @@
+-- `lines::totals_at`: the last line in a buffer of its own, and then these words.
+-- Assumes nothing.
+use borrow.Author.Needs.{needs}
+use Rattle.texts.proofs.PutTexts.{line-taken}
+use Rattle.texts.proofs.lines.totals_at.Statement.{statement}
+use Rattle.texts.proofs.lines.totals_at.Tie as tie
+
+totals-requires : tie.Need-totals-requires
+totals-requires c κs = search needs
+
+array-share-prefix-text : tie.Need-array-share-prefix-text
+array-share-prefix-text c = search needs
+
+slice-aggregate-words : tie.Need-slice-aggregate-words
+slice-aggregate-words c = search needs
+
+words-requires : tie.Need-words-requires
+words-requires c κs = search needs
+
+same-length : tie.Need-same-length
+same-length c = search needs
+
+returns : tie.Need-returns
+returns c = search line-taken
+
+pub totals-at-spec : {M : Type 1} → statement M
+totals-at-spec =
+    tie.close
+    (tie.spec
+    totals-requires
+    array-share-prefix-text
+    slice-aggregate-words
+    words-requires
+    same-length
+    returns)

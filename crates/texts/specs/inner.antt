@@ -1,0 +1,3 @@
+-- For the prover alone: no promise cites a file of this folder.
+pub mod Begun
+pub mod Counts
