@@ -9,17 +9,17 @@ use Rattle.layouts.specs.Sizes.{krootBlocks}
 use Rattle.subframes.specs.Subframe.{isUsed, small, changed, used, offered, answerAt, feed as feedPage, view as viewPage}
 use Rattle.dsms.specs.Dsm.{begun, stored, counted as counted-blocks, allHeld, finished, taken, feed as feedBlock}
 use Rattle.page_replay.specs.Replay.{isCounted, skipped, counted, fed, pageStep, andThen, replayed, pagesOf, fedHkroot, osnma, later}
-use Rattle.texts.specs.Decimal.{digitsOnly, numberBehind, spelt, digits}
+use Rattle.texts.specs.Decimal.{only, numberBehind, spelt, digits}
 use Rattle.texts.specs.Lines.{bytes, line}
 use Rattle.listing.specs.Listing.{pageLines}
 use Rattle.listing.specs.Examples.{Fifteen, Refused, Few, Examples}
 
 fifteen : Fifteen
-unfolding pageLines line bytes digits spelt digitsOnly numberBehind refusal answered pagesOf replayed andThen pageStep isCounted skipped fed counted isUsed later osnma fedHkroot bit field small changed used offered answerAt feedPage viewPage copied begun stored counted-blocks allHeld finished taken feedBlock krootBlocks
+unfolding pageLines line bytes digits spelt only numberBehind refusal answered pagesOf replayed andThen pageStep isCounted skipped fed counted isUsed later osnma fedHkroot bit field small changed used offered answerAt feedPage viewPage copied begun stored counted-blocks allHeld finished taken feedBlock krootBlocks
 fifteen = refl
 
 refused : (input : List ℕ) → Refused input
-unfolding pageLines line bytes digits spelt digitsOnly numberBehind refusal answered
+unfolding pageLines line bytes digits spelt only numberBehind refusal answered
 refused input =
     record {
       none = refl;
@@ -35,7 +35,7 @@ refused input =
     }
 
 few : Few
-unfolding pageLines line bytes digits spelt digitsOnly numberBehind refusal answered pagesOf replayed
+unfolding pageLines line bytes digits spelt only numberBehind refusal answered pagesOf replayed
 few = record { no-pages = refl; tail-alone = refl }
 
 pub examples : Examples

@@ -1,4 +1,5 @@
 pub mod Examples
+pub mod Histories
 pub mod Pages
 pub mod PieceSteps
 pub mod Putting

@@ -49,6 +49,18 @@ pages-front bytes =
     ∙ ap (pagesOf (w + 0)) (take-append-drop (30 * w) bytes)
     ∙ ap (λ (k : ℕ). pagesOf k bytes) (add-zero w)
 
+-- whole pages at the start of some bytes
+pub pages-taken : (k : ℕ) (bytes : List ℕ) → 30 * k ≤ length bytes → pagesOf k bytes ≡ pagesIn (take (30 * k) bytes)
+unfolding pagesOf
+pages-taken k bytes h =
+    let long : length (take (30 * k) bytes) ≡ 30 * k = length-take-le (30 * k) bytes h in
+    let many : wholePages (take (30 * k) bytes) ≡ k = omega arith in
+    ap (λ (j : ℕ). pagesOf j bytes) (sym (add-zero k))
+    ∙ ap (pagesOf (k + 0)) (sym (take-append-drop (30 * k) bytes))
+    ∙ pages-join k 0 (take (30 * k) bytes) (drop (30 * k) bytes) long
+    ∙ append-nil (pagesOf k (take (30 * k) bytes))
+    ∙ ap (λ (j : ℕ). pagesOf j (take (30 * k) bytes)) (sym many)
+
 module _ (a b : List ℕ) where
   whole-join : front a ++ (tailOf a ++ b) ≡ a ++ b
   whole-join = sym (append-assoc (front a) (tailOf a) b) ∙ ap (λ (l : List ℕ). l ++ b) (take-append-drop (30 * wholePages a) a)

@@ -1,22 +1,62 @@
 -- Laws of the calls of the listing: what is refused, and what a call that is not does.
 -- Assumes nothing.
 use Prim.Native.Nat.{ℕ, _+_, _*_, _-_, _/_, _%_, _≤_, _<_, min}
+use native.Mathlib.Nat.{zero-add}
 use native.Mathlib.Omega.{arith}
 use mathlib.Core.Path.{_≡_, refl, sym, ap, _∙_}
 use mathlib.Core.List.{List, [], _∷_, _++_}
-use mathlib.Core.Bool.{Bool, true, false, cond}
-use lib.ListN.{length, take}
-use lib.Dec.{ltb, eqb}
+use mathlib.Core.Bool.{Bool, true, false, cond, _&&_}
+use lib.ListN.{length, take, drop, length-append, length-drop}
+use lib.Seq.{length-take-le, take-at}
+use lib.Dec.{ltb, leb, eqb}
 use borrow.Author.Tests.{lt-ltb, le-ltb, ne-eqb, eqb-true, eqb-false}
 use Rattle.layouts.specs.Answer.{Answer, refused, nothing, gives, Check, _when_, refusal}
-use Rattle.layouts.proofs.Answers.{stopped, went-on}
-use Rattle.page_replay.specs.Replay.{State, pagesOf, consumed, replayed, replayChecks, Outcome, replay}
-use Rattle.page_replay.specs.ReplayPromises.{meaning-replay}
+use Rattle.layouts.specs.Gst.{svnGstChecks}
+use Rattle.layouts.specs.Lists.{put}
+use Rattle.layouts.proofs.Answers.{stopped, went-on, converse, answer-of}
+use Rattle.page_replay.specs.Replay.{State, pagesOf, consumed, replayed, replayChecks, Outcome, replay, begun as replayBegun}
+use Rattle.page_replay.specs.ReplayPromises.{meaning-replay, state as replayState, outcome as replayOutcome}
 use Rattle.page_replay.specs.declared.replay.ReplayAnswer.{ReplayAnswer}
 use Rattle.page_replay.specs.declared.replay.ReplayAnswer.the-variants.{Refused as ReplayRefused, Consumed}
-use Rattle.listing.specs.Listing.{completed, totalsLine, pagesIn}
-use Rattle.listing.specs.Pieces.{Running, Told, roomChecks, recordChecks, checks, unlessRefused, says, takes, together, next, run, fed, feed, finish}
-use Rattle.listing.specs.inner.Steps.{Kept, after, tells, Ready}
+use Rattle.page_replay.specs.declared.replay.PageReplay.{PageReplay}
+use Rattle.page_replay.specs.declared.replay.Replayed.{Replayed}
+use Rattle.texts.specs.Arguments.{textChecks, argumentsAnswer, meaning-arguments}
+use Rattle.texts.specs.Decimal.{number}
+use Rattle.texts.specs.declared.arguments.Arguments.{Arguments}
+use Rattle.texts.specs.declared.arguments.Arguments.the-variants.{Refused as NotGiven, Given}
+use Rattle.listing.specs.Listing.{refusedLine, completed, totalsLine, pagesIn}
+use Rattle.listing.specs.Pieces.{Running, Told, roomChecks, recordChecks, checks, unlessRefused, says, none, begun, begin, areWhole, takes, together, next, run, fed, feed, finish}
+use Rattle.listing.specs.inner.Puts.{Puts}
+use Rattle.listing.specs.inner.Steps.{fresh, Kept, after, toldBy, tells, Ready}
+use Rattle.listing.specs.PiecePromises.{state}
+use Rattle.listing.specs.declared.pieces.Listing.{Listing}
+use Rattle.listing.proofs.Pages.{pages-taken}
+
+abbrev kept : List ℕ → ℕ → ℕ → Kept
+kept page held taken = record { page = page; held = held; taken = taken }
+
+abbrev says-as : Running → ℕ → ℕ → List ℕ → Told
+says-as x taken w out = record { state = x; answer = gives (taken ∷ w ∷ []); out = out }
+
+both-true : (a b : Bool) → (a && b) ≡ true → (a ≡ true) × (b ≡ true)
+both-true true true e = (refl, refl)
+both-true true false e = let z : _≡_ {A = ℕ} 0 1 = cc in absurd (omega arith)
+both-true false b e = let z : _≡_ {A = ℕ} 0 1 = cc in absurd (omega arith)
+
+-- Numbers that the arguments give are legal.
+pub asked-legal : (many : ℕ) (a b c : List ℕ) {s w t : ℕ} → gives (s ∷ w ∷ t ∷ []) ≡ argumentsAnswer many a b c → refusal (svnGstChecks s w t) ≡ 0
+unfolding refusal
+asked-legal many a b c {s} {w} {t} e =
+    let p = converse (textChecks many a b c ++ svnGstChecks (number a) (number b) (number c)) _ tt e in
+    let same : s ∷ w ∷ t ∷ [] ≡ number a ∷ number b ∷ number c ∷ [] = answer-of _ _ e in
+    let x : s ≡ number a = cc in
+    let y : w ≡ number b = cc in
+    let z : t ≡ number c = cc in
+    rw (x, y, z, p .1 .1 .1 .1 .0, p .1 .1 .1 .1 .1 .0, p .1 .1 .1 .1 .1 .1 .0, p .1 .1 .1 .1 .1 .1 .1 .0)
+
+legal-fresh : (s w t : ℕ) → refusal (svnGstChecks s w t) ≡ 0 → fresh s w t false ≡ none s w t false
+unfolding replayBegun
+legal-fresh s w t e = rw e
 
 -- A call of the page replay does its pages, or refuses.
 abbrev did : State → List (List ℕ) → Outcome
@@ -167,3 +207,161 @@ module _ (s : Running) (out : List ℕ) where
       let text : List ℕ = totalsLine (s .replay .totals) (s .held) in
       let z : says s 0 text out ≡ says s 0 (cond (s .over) [] text) out = rw g in
       z ∙ told-by s out (says s 0 (cond (s .over) [] text) out) (room-pass s out r e)
+
+-- What is kept and taken, of whole pages.
+module _ (s : Running) (piece : List ℕ) (w : areWhole s piece ≡ true) where
+  no-byte : s .held ≡ 0
+  no-byte = eqb-true (s .held) 0 (both-true (eqb (s .held) 0) (leb 30 (length piece)) w .0)
+
+  whole-takes : takes s piece ≡ 30 * min 15 (length piece / 30)
+  whole-takes = rw w
+
+  whole-together : together s piece ≡ take (30 * min 15 (length piece / 30)) piece
+  whole-together =
+      ap (λ (k : ℕ). take k (s .page) ++ take (takes s piece) piece) no-byte ∙ ap (λ (k : ℕ). take k piece) whole-takes
+
+  pub pages-consumed : consumed piece 15 ≡ pagesIn (together s piece)
+  pages-consumed = pages-taken (min 15 (length piece / 30)) piece (omega arith) ∙ ap pagesIn (sym whole-together)
+
+  pub pages-kept : {t : ℕ} → t ≡ min 15 (length piece / 30)
+      → _≡_ {A = Kept} (record { page = s .page; held = 0; taken = 30 * t }) (record { page = next s piece .page; held = next s piece .held; taken = takes s piece })
+  pages-kept {t} e =
+      let long : length (together s piece) ≡ 30 * min 15 (length piece / 30) =
+      ap length whole-together ∙ length-take-le (30 * min 15 (length piece / 30)) piece (omega arith) in
+      let none : 0 ≡ length (together s piece) % 30 = omega arith in
+      let page : s .page ≡ next s piece .page = rw w in
+      let taken : 30 * t ≡ takes s piece = ap (λ (k : ℕ). 30 * k) e ∙ sym whole-takes in
+      ap (λ (p : List ℕ). kept p 0 (30 * t)) page ∙ ap (λ (h : ℕ). kept (next s piece .page) h (30 * t)) none
+      ∙ ap (kept (next s piece .page) (next s piece .held)) taken
+
+-- Of the page that is held.
+module _ (s : Running) (piece : List ℕ) (w : areWhole s piece ≡ false) (few : s .held ≤ 29) (long : length (s .page) ≡ 30) {t : ℕ} (e : t ≡ min (30 - s .held) (length piece)) where
+  page-takes : t ≡ takes s piece
+  page-takes = e ∙ rw w
+
+  part-long : length (take t piece) ≡ t
+  part-long = length-take-le t piece (omega arith)
+
+  page-together : take (s .held + t) (put (s .page) (s .held) t (take t piece)) ≡ together s piece
+  page-together =
+      let front : length (take (s .held) (s .page)) ≡ s .held = length-take-le (s .held) (s .page) (omega arith) in
+      take-at (take (s .held) (s .page) ++ take t piece) (drop (s .held + t) (s .page)) (s .held + t)
+      (length-append (take (s .held) (s .page)) (take t piece) ∙ rw (front, part-long))
+      ∙ ap (λ (k : ℕ). take (s .held) (s .page) ++ take k piece) page-takes
+
+  page-many : length (together s piece) ≡ s .held + t
+  page-many =
+      ap length (sym page-together)
+      ∙ length-take-le (s .held + t) (put (s .page) (s .held) t (take t piece)) (rw page-whole (omega arith))
+    where
+      page-whole : length (put (s .page) (s .held) t (take t piece)) ≡ 30
+      page-whole =
+          length-append (take (s .held) (s .page) ++ take t piece) (drop (s .held + t) (s .page))
+          ∙ rw (length-append, length-take-le (s .held) (s .page) (omega arith), part-long, length-drop, long) (omega arith)
+
+  pub page-consumed : {r : List ℕ} → r ≡ put (s .page) (s .held) t (take t piece) → consumed (take (s .held + t) r) 15 ≡ pagesIn (together s piece)
+  page-consumed f =
+      let one : min 15 (length (together s piece) / 30) ≡ length (together s piece) / 30 = omega (arith, page-many) in
+      ap (λ (x : List ℕ). consumed (take (s .held + t) x) 15) f ∙ ap (λ (x : List ℕ). consumed x 15) page-together ∙ ap (λ (k : ℕ). pagesOf k (together s piece)) one
+
+  pub page-kept : {r : List ℕ} → r ≡ put (s .page) (s .held) t (take t piece)
+      → _≡_ {A = Kept} (record { page = r; held = (s .held + t) % 30; taken = t })
+      (record { page = next s piece .page; held = next s piece .held; taken = takes s piece })
+  page-kept f =
+      let page : put (s .page) (s .held) (takes s piece) (take (takes s piece) piece) ≡ next s piece .page = rw w in
+      let held : (s .held + t) % 30 ≡ length (together s piece) % 30 = ap (λ (k : ℕ). k % 30) (sym page-many) in
+      ap (λ (p : List ℕ). kept p ((s .held + t) % 30) t) f ∙ ap (λ (h : ℕ). kept (put (s .page) (s .held) t (take t piece)) h t) held
+      ∙ ap (λ (k : ℕ). kept (put (s .page) (s .held) k (take k piece)) (next s piece .held) k) page-takes
+      ∙ ap (λ (p : List ℕ). kept p (next s piece .held) (takes s piece)) page
+
+-- Texts that are told.
+pub puts-says : (x : Running) (taken : ℕ) (text out : List ℕ) {after : List ℕ} {w : ℕ} → Puts text out 0 after w
+    → _≡_ {A = Told} (record { state = x; answer = gives (taken ∷ w ∷ []); out = after }) (says x taken text out)
+puts-says x taken text out {after} {w} p =
+    let many : w ≡ length text = p .ends ∙ zero-add (length text) in
+    ap (λ (k : ℕ). says-as x taken k after) many ∙ ap (says-as x taken (length text)) (p .bytes)
+
+module _ (l : Listing) (k : Kept) (done : Replayed) (out h m d : List ℕ) where
+  pub tell-refused : {n : ℕ} → done .answer ≡ ReplayRefused n → not-told (state l h m d) n out ≡ tells (state l h m d) k (replayOutcome done h m d) out
+  tell-refused e = ap (λ (a : ReplayAnswer). toldBy (meaning-replay a) (state l h m d) out (after (state l h m d) k (replayOutcome done h m d) out)) (sym e)
+
+  pub tell-done : {c : ℕ} → done .answer ≡ Consumed c → {t : Told} → t ≡ after (state l h m d) k (replayOutcome done h m d) out → t ≡ tells (state l h m d) k (replayOutcome done h m d) out
+  tell-done e f = f ∙ ap (λ (a : ReplayAnswer). toldBy (meaning-replay a) (state l h m d) out (after (state l h m d) k (replayOutcome done h m d) out)) (sym e)
+
+-- the lent memory as it was
+pub same-memory : (l : Listing) (p q : PageReplay) (h m d x y z : List ℕ) → replayState p x y z ≡ replayState q h m d → state l x y z ≡ state l h m d
+same-memory l p q h m d x y z e = ap (λ (s : State). state l (s .subframes .hkroot) (s .subframes .mack) (s .dsms .memory)) e
+
+-- The beginning.
+module _ (many : ℕ) (satellite week time out : List ℕ) where
+  fresh-none : (o : Bool) → fresh 0 0 0 o ≡ none 0 0 0 o
+  unfolding replayBegun refusal
+  fresh-none o = refl
+
+  pub begin-short : {x : Running} → x ≡ fresh 0 0 0 false → length out < 256 → not-told x 1 out ≡ begin many satellite week time out
+  unfolding begin refusal
+  begin-short {x} e h = ap (λ (y : Running). not-told y 1 out) (e ∙ fresh-none false) ∙ rw (lt-ltb (length out) 256 h)
+
+  begun-is : 256 ≤ length out → begun (argumentsAnswer many satellite week time) out ≡ begin many satellite week time out
+  unfolding begin refusal
+  begun-is h = rw (le-ltb (length out) 256 h)
+
+  pub begin-refused : {a : Arguments} {n : ℕ} {x : Running} {t : Told} → 256 ≤ length out → meaning-arguments a ≡ argumentsAnswer many satellite week time → a ≡ NotGiven n
+      → x ≡ fresh 0 0 0 true → t ≡ says x 0 (refusedLine n) out → t ≡ begin many satellite week time out
+  begin-refused {n = n} h e f g k =
+      k ∙ ap (λ (y : Running). says y 0 (refusedLine n) out) (g ∙ fresh-none true) ∙ ap (λ (b : Answer). begun b out) (ap meaning-arguments (sym f) ∙ e) ∙ begun-is h
+
+  pub begin-given : {a : Arguments} {s w t : ℕ} {x : Running} → 256 ≤ length out → meaning-arguments a ≡ argumentsAnswer many satellite week time → a ≡ Given s w t
+      → x ≡ fresh s w t false → _≡_ {A = Told} (record { state = x; answer = gives (0 ∷ 0 ∷ []); out = out }) (begin many satellite week time out)
+  begin-given {a} {s} {w} {t} {x} h e f g =
+      let given : gives (s ∷ w ∷ t ∷ []) ≡ argumentsAnswer many satellite week time = ap meaning-arguments (sym f) ∙ e in
+      nothing-said x
+      ∙ ap (λ (y : Running). says y 0 [] out) (g ∙ legal-fresh s w t (asked-legal many satellite week time given))
+      ∙ ap (λ (b : Answer). begun b out) given ∙ begun-is h
+    where
+      nothing-said : (y : Running) → _≡_ {A = Told} (record { state = y; answer = gives (0 ∷ 0 ∷ []); out = out }) (says y 0 [] out)
+      nothing-said y = refl
+
+-- What a replay of no pages answers, of the code.
+module _ (l : Listing) (h m d page : List ℕ) (done : Replayed) {x y z : List ℕ} (g : l .over ≡ false) (e : replayOutcome done x y z ≡ replay (replayState (l .replay) h m d) page 0) where
+  still : (x ≡ h) × (y ≡ m) × (z ≡ d)
+  still =
+      let s = asked-same (state l h m d) page g e in
+      (ap (λ (t : State). t .subframes .hkroot) s, ap (λ (t : State). t .subframes .mack) s, ap (λ (t : State). t .dsms .memory) s)
+
+  pub refuses-first : {n : ℕ} → done .answer ≡ ReplayRefused n → (n ≡ refusal (recordChecks (state l h m d))) × (x ≡ h) × (y ≡ m) × (z ≡ d)
+  refuses-first a = (asked-refused (state l h m d) page g e (ap meaning-replay a) .0, still .0, still .1, still .2)
+
+  pub refuses-high : {n : ℕ} → done .answer ≡ Consumed n → 29 < l .held → (12 ≡ refusal (recordChecks (state l h m d))) × (x ≡ h) × (y ≡ m) × (z ≡ d)
+  refuses-high a k = (asked-high (state l h m d) page g e (ap meaning-replay a) k, still .0, still .1, still .2)
+
+  pub refuses-none : {n : ℕ} → done .answer ≡ Consumed n → l .held ≤ 29 → (0 ≡ refusal (recordChecks (state l h m d))) × (x ≡ h) × (y ≡ m) × (z ≡ d)
+  refuses-none a k = (asked-none (state l h m d) page g e (ap meaning-replay a) k, still .0, still .1, still .2)
+
+-- Refused with the memory as it was.
+module _ (l : Listing) (h m d out : List ℕ) {q : ℕ} {x y z : List ℕ} (r : 256 ≤ length out) (e : q ≡ refusal (recordChecks (state l h m d))) (f : (x ≡ h) × (y ≡ m) × (z ≡ d)) where
+  as-it-was : state l x y z ≡ state l h m d
+  as-it-was = ap (λ (t : List ℕ). state l t y z) (f .0) ∙ ap (λ (t : List ℕ). state l h t z) (f .1) ∙ ap (λ (t : List ℕ). state l h m t) (f .2)
+
+  pub feed-high : (piece : List ℕ) → l .over ≡ false → 29 < l .held → not-told (state l x y z) q out ≡ feed (state l h m d) piece out
+  feed-high piece g k = ap (λ (t : Running). not-told t q out) as-it-was ∙ feed-refused (state l h m d) piece out r (λ w. high (sym e ∙ w)) e
+    where
+      high : refusal (recordChecks (state l h m d)) ≡ 0 → ⊥
+      high w = go (called (l-replay) [] 15)
+        where
+          l-replay : State
+          l-replay = replayState (l .replay) h m d
+
+          go : Called l-replay [] 15 → ⊥
+          go (goes n f) = let t : 12 ≡ refusal (recordChecks (state l h m d)) = record-held (state l h m d) g n (held-high (state l h m d) k) in omega (arith, t, w)
+          go (stops n f) = n (record-stops (state l h m d) g refl n ∙ w)
+
+  pub finish-stopped : (q ≡ 0 → ⊥) → not-told (state l x y z) q out ≡ finish (state l h m d) out
+  finish-stopped ne = ap (λ (t : Running). not-told t q out) as-it-was ∙ finish-refused (state l h m d) out r ne e
+
+  pub finish-told : q ≡ 0 → l .over ≡ false → {w : ℕ} {after : List ℕ} → Puts (totalsLine (state l h m d .replay .totals) (l .held)) out 0 after w
+      → _≡_ {A = Told} (record { state = state l x y z; answer = gives (0 ∷ w ∷ []); out = after }) (finish (state l h m d) out)
+  finish-told n g p =
+      puts-says (state l x y z) 0 (totalsLine (state l h m d .replay .totals) (l .held)) out p
+      ∙ ap (λ (t : Running). says t 0 (totalsLine (state l h m d .replay .totals) (l .held)) out) as-it-was
+      ∙ finish-done (state l h m d) out r g (sym n ∙ e)

@@ -6,7 +6,7 @@ use mathlib.Core.List.{List, [], _∷_, _++_}
 use mathlib.Core.Path.{_≡_}
 use lib.ListN.{replicate}
 use Rattle.texts.specs.Lines.{bytes}
-use Rattle.listing.specs.Listing.{listing, tells, askedOf}
+use Rattle.listing.specs.Listing.{listing, tells, asked}
 
 -- texts, each followed by a newline
 abbrev pub lines : List String → List ℕ
@@ -46,7 +46,7 @@ kroot (suc n) k = pages (hkroot k 16) ++ kroot n (k + 1)
 -- seven subframes, the seventh of which completes the DSM, over the end of a week; then a page that is skipped, and 4 bytes
 abbrev pub KrootTold : Type 0
 KrootTold =
-    tells (askedOf (texts ("1" ∷ "4095" ∷ "604650" ∷ []))) (kroot 7 0 ++ (replicate 30 255 ++ replicate 4 0))
+    tells (asked (texts ("1" ∷ "4095" ∷ "604650" ∷ []))) (kroot 7 0 ++ (replicate 30 255 ++ replicate 4 0))
     ≡ lines
     ("S 1 4095 604650" ∷
     "S 1 4095 604680" ∷

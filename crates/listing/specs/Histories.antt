@@ -7,7 +7,7 @@ use mathlib.Core.Path.{_≡_}
 use lib.ListN.{length, getD, take, replicate}
 use Rattle.layouts.specs.Answer.{Answer, refused, nothing, gives}
 use Rattle.page_replay.specs.Replay.{areFew}
-use Rattle.listing.specs.Listing.{askedOf, tells, listing}
+use Rattle.listing.specs.Listing.{asked, tells, listing}
 use Rattle.listing.specs.PiecePromises.{state, meaning-listing, BeginListing, FeedListing, FinishListing}
 use Rattle.listing.specs.declared.pieces.Listing.{Listing}
 use Rattle.listing.specs.declared.pieces.ListingStep.{ListingStep}
@@ -55,7 +55,7 @@ pub data History (arguments : List (List ℕ)) : Listing → List ℕ → List �
 abbrev pub SoFar : Type 0
 SoFar =
     (arguments : List (List ℕ)) (l : Listing) (h m d input output : List ℕ) → History arguments l h m d input output
-    → output ≡ tells (askedOf arguments) input
+    → output ≡ tells (asked arguments) input
 
 -- "as long as no total passes 2^62"
 abbrev pub Few : Listing → Type 0

@@ -3,36 +3,28 @@
 use Prim.Native.Nat.{ℕ, _%_}
 use mathlib.Core.List.{List, [], _∷_, _++_}
 use lib.ListN.{length, getD, replicate}
-use Rattle.layouts.specs.Answer.{Answer, refused, nothing, gives, refusal, answered}
+use Rattle.layouts.specs.Answer.{Answer, refused, nothing, gives}
 use Rattle.page_replay.specs.Replay.{Time, Dsm, Totals, State, new, Run, pageStep, replayed, pagesOf, wholePages}
-use Rattle.texts.specs.Decimal.{number}
-use Rattle.texts.specs.Arguments.{textChecks, rangeChecks}
-use Rattle.texts.specs.Lines.{_of_, line}
+use Rattle.texts.specs.Arguments.{argumentsAnswer}
+use Rattle.texts.specs.Lines.{line, subframeParts, dsmParts, totalsParts, refusedParts}
 
--- "Satellite, week and first time are program arguments": their three numbers, or a refusal number
-abbrev pub asked : ℕ → List ℕ → List ℕ → List ℕ → Answer
-asked many satellite week time =
-    answered
-    (refusal (textChecks many satellite week time ++ rangeChecks (number satellite) (number week) (number time)))
-    (gives (number satellite ∷ number week ∷ number time ∷ []))
-
--- of any number of arguments
-abbrev pub askedOf : List (List ℕ) → Answer
-askedOf arguments = asked (length arguments) (getD arguments 0 []) (getD arguments 1 []) (getD arguments 2 [])
+-- "Satellite, week and first time are program arguments": their three numbers, or a refusal number; of any number of arguments
+abbrev pub asked : List (List ℕ) → Answer
+asked arguments = argumentsAnswer (length arguments) (getD arguments 0 []) (getD arguments 1 []) (getD arguments 2 [])
 
 -- "On a refusal only `refused N` is written."
 abbrev pub refusedLine : ℕ → List ℕ
-refusedLine n = line ("refused " of n ∷ [])
+refusedLine n = line (refusedParts n)
 
 -- "S 3 1200 60"
 abbrev pub subframeLines : ℕ → List Time → List ℕ
 subframeLines satellite [] = []
-subframeLines satellite (t ∷ ts) = line ("S " of satellite ∷ " " of t .week ∷ " " of t .time ∷ []) ++ subframeLines satellite ts
+subframeLines satellite (t ∷ ts) = line (subframeParts satellite (t .week) (t .time)) ++ subframeLines satellite ts
 
 -- "`D id n` .., n its length in bytes"
 abbrev pub dsmLines : List Dsm → List ℕ
 dsmLines [] = []
-dsmLines (d ∷ ds) = line ("D " of d .id ∷ " " of d .bytes ∷ []) ++ dsmLines ds
+dsmLines (d ∷ ds) = line (dsmParts (d .id) (d .bytes)) ++ dsmLines ds
 
 -- "A DSM writes `D id n` after its S line"
 abbrev pub completed : ℕ → Run → List ℕ
@@ -45,9 +37,7 @@ pageLines s (page ∷ pages) = completed (s .satellite) (pageStep s page) ++ pag
 
 -- "pages 15 skipped 0 subframes 1 dsms 0 tail 0": "Pages include skipped ones; tail is leftover bytes, 0..29."
 abbrev pub totalsLine : Totals → ℕ → List ℕ
-totalsLine t tail =
-    line
-    ("pages " of t .pages ∷ " skipped " of t .skipped ∷ " subframes " of t .subframes ∷ " dsms " of t .dsms ∷ " tail " of tail ∷ [])
+totalsLine t tail = line (totalsParts (t .pages) (t .skipped) (t .subframes) (t .dsms) tail)
 
 -- the whole pages of the input
 abbrev pub pagesIn : List ℕ → List (List ℕ)
@@ -70,4 +60,4 @@ ends (gives l) input = totalsLine (replayed (first l) (pagesIn input) .state .to
 
 -- the whole standard output, from the arguments and the input
 abbrev pub listing : List (List ℕ) → List ℕ → List ℕ
-listing arguments input = tells (askedOf arguments) input ++ ends (askedOf arguments) input
+listing arguments input = tells (asked arguments) input ++ ends (asked arguments) input

@@ -8,7 +8,8 @@ use lib.Dec.{leb, ltb, eqb}
 use Rattle.layouts.specs.Answer.{Answer, refused, nothing, gives, Check, _when_, refusal}
 use Rattle.page_replay.specs.Replay.{State, new, Run, replayed, replayChecks}
 use Rattle.layouts.specs.Lists.{put}
-use Rattle.listing.specs.Listing.{asked, refusedLine, completed, totalsLine, pagesIn}
+use Rattle.texts.specs.Arguments.{argumentsAnswer}
+use Rattle.listing.specs.Listing.{refusedLine, completed, totalsLine, pagesIn}
 
 -- The running record with the lent memory: the replay; of the 30 bytes `page` the first `held` are of a page that is not whole yet; and whether it is over, since the arguments were refused.
 pub record Running : Type 0 where
@@ -51,7 +52,7 @@ begun nothing out = says (none 0 0 0 true) 0 [] out
 begun (gives l) out = says (none (getD l 0 0) (getD l 1 0) (getD l 2 0) false) 0 [] out
 
 unfoldable pub begin : ℕ → List ℕ → List ℕ → List ℕ → List ℕ → Told
-begin many satellite week time out = unlessRefused (refusal (roomChecks out)) (none 0 0 0 false) out (begun (asked many satellite week time) out)
+begin many satellite week time out = unlessRefused (refusal (roomChecks out)) (none 0 0 0 false) out (begun (argumentsAnswer many satellite week time) out)
 
 -- How much of a piece a call takes: where no byte is held its whole pages, fifteen at most; else, and where it has no whole page, what the held page has room for.
 abbrev pub areWhole : Running → List ℕ → Bool

@@ -6,6 +6,7 @@ use page_replay::replay::ReplayAnswer;
 use page_replay::replay::Replayed;
 use texts::arguments;
 use texts::arguments::Arguments;
+use texts::put::words;
 ghost use mathlib.Core.Path.{_≡_};
 ghost use mathlib.Core.Bool.{true, false, _&&_};
 ghost use mathlib.Core.List.{List, []};
@@ -185,9 +186,10 @@ fn feed_pages(
 fn fill(page: [u8; 30], held: usize, piece: &[u8], many: usize) -> [u8; 30]
     requires { ⌜ (held + many ≤ 30) × (many ≤ length (now piece)) ⌝ }
     ensures { λ r. ⌜ r ≡ putOf page held many (take many (now (piece .entry))) ⌝ }
+    ensures { λ r. ⌜ length page ≡ 30 ⌝ }
 {
     let mut page = page;
-    put::text(&mut page, held, &piece[..many]);
+    words(&mut page, held, &piece[..many]);
     page
 }
 
@@ -295,7 +297,11 @@ pub fn finish(
         };
     }
     let record = listing.replay;
-    let written = put::totals(out, record, listing.held);
+    let pages = record.pages;
+    let skipped = record.skipped;
+    let subframes = record.subframes_done;
+    let dsms = record.dsms_done;
+    let written = put::totals(out, pages, skipped, subframes, dsms, listing.held);
     ListingStep {
         listing,
         answer: ListingAnswer::Told { taken: 0, written },

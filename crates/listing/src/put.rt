@@ -1,61 +1,74 @@
 // Lines of the listing, put into the caller's room. Each function answers where the text ends.
 use page_replay::replay::DsmDone;
-use page_replay::replay::PageReplay;
 use page_replay::replay::SubframeDone;
 use texts::lines;
+use texts::put::End;
 ghost use mathlib.Core.Path.{_≡_};
-ghost use mathlib.Core.List.{[], _++_};
+ghost use mathlib.Core.List.{_++_};
 ghost use Prim.Native.Nat.{_+_, _≤_};
 ghost use lib.ListN.{length};
-ghost use Rattle.page_replay.specs.ReplayPromises.{state, meaning-subframes, meaning-dsms};
-ghost use Rattle.listing.specs.Listing.{refusedLine, subframeLines, dsmLines, totalsLine};
-ghost use Rattle.listing.specs.inner.Puts.{Puts};
+ghost use Rattle.texts.specs.Lines.{line, subframeParts, dsmParts, totalsParts};
+ghost use Rattle.texts.specs.Puts.{meaning-end};
+ghost use Rattle.page_replay.specs.ReplayPromises.{meaning-subframes, meaning-dsms};
+ghost use Rattle.listing.specs.Listing.{refusedLine, subframeLines, dsmLines};
+ghost use Rattle.listing.specs.inner.Puts.{Puts, endIn};
 
-// A text goes to `at`.
-pub(crate) fn text(out: &mut [u8], at: usize, text: &[u8]) -> usize
-    requires { ⌜ at + length (now text) ≤ length (now out) ⌝ }
-    ensures { λ r. ⌜ Puts (now (text .entry)) (now (out .entry)) at (now (out .exit)) r ⌝ }
+fn end_of(end: End) -> usize
+    ensures { λ r. ⌜ r ≡ endIn (meaning-end end) ⌝ }
 {
-    let mut i = 0;
-    while i < text.len() {
-        out[at + i] = text[i];
-        i += 1;
+    match end {
+        End::At(n) => n,
+        End::Refused(_) => 0,
     }
-    at + text.len()
 }
 
-// The S line, if there is one, goes to the start.
+// `S satellite week time` goes to the start.
+fn subframe_line(out: &mut [u8], satellite: u8, week: u16, time: u32) -> usize
+    requires { ⌜ 256 ≤ length (now out) ⌝ }
+    ensures { λ r. ⌜ Puts (line (subframeParts satellite week time)) (now (out .entry)) 0 (now (out .exit)) r ⌝ }
+    ensures { λ r. ⌜ r ≤ 96 ⌝ }
+{
+    end_of(lines::subframe_at(out, 0, satellite, week, time))
+}
+
+// The S line, if there is one.
 fn subframe(out: &mut [u8], satellite: u8, done: SubframeDone) -> usize
     requires { ⌜ 256 ≤ length (now out) ⌝ }
-    ensures { λ r. ⌜ Puts (subframeLines satellite (meaning-subframes done)) (now (out .entry)) 0 (now (out .exit)) r × (r ≤ 96) ⌝ }
+    ensures { λ r. ⌜ Puts (subframeLines satellite (meaning-subframes done)) (now (out .entry)) 0 (now (out .exit)) r ⌝ }
+    ensures { λ r. ⌜ r ≤ 96 ⌝ }
 {
     match done {
         SubframeDone::None => 0,
-        SubframeDone::Subframe { week, time } => {
-            let mut line = [0u8; 160];
-            let many = lines::subframe(&mut line, satellite, week, time);
-            text(out, 0, &line[..many])
-        }
+        SubframeDone::Subframe { week, time } => subframe_line(out, satellite, week, time),
     }
 }
 
-// The D line, if there is one, goes to `at`.
+// `D id n` goes to `at`.
+fn dsm_line(out: &mut [u8], at: usize, id: u8, bytes: usize) -> usize
+    requires { ⌜ at + 96 ≤ length (now out) ⌝ }
+    ensures { λ r. ⌜ Puts (line (dsmParts id bytes)) (now (out .entry)) at (now (out .exit)) r ⌝ }
+{
+    end_of(lines::dsm_at(out, at, id, bytes))
+}
+
+// The D line, if there is one.
 fn dsm(out: &mut [u8], at: usize, done: DsmDone) -> usize
-    requires { ⌜ at + 160 ≤ length (now out) ⌝ }
+    requires { ⌜ at + 96 ≤ length (now out) ⌝ }
     ensures { λ r. ⌜ Puts (dsmLines (meaning-dsms done)) (now (out .entry)) at (now (out .exit)) r ⌝ }
 {
     match done {
         DsmDone::None => at,
-        DsmDone::Dsm { id, bytes } => {
-            let mut line = [0u8; 160];
-            let many = lines::dsm(&mut line, id, bytes);
-            text(out, at, &line[..many])
-        }
+        DsmDone::Dsm { id, bytes } => dsm_line(out, at, id, bytes),
     }
 }
 
 // What was completed, the S line first.
-pub(crate) fn completed(out: &mut [u8], satellite: u8, subframe_done: SubframeDone, dsm_done: DsmDone) -> usize
+pub(crate) fn completed(
+    out: &mut [u8],
+    satellite: u8,
+    subframe_done: SubframeDone,
+    dsm_done: DsmDone,
+) -> usize
     requires { ⌜ 256 ≤ length (now out) ⌝ }
     ensures { λ r. ⌜ Puts (subframeLines satellite (meaning-subframes «subframe_done») ++ dsmLines (meaning-dsms «dsm_done»)) (now (out .entry)) 0 (now (out .exit)) r ⌝ }
 {
@@ -64,20 +77,18 @@ pub(crate) fn completed(out: &mut [u8], satellite: u8, subframe_done: SubframeDo
 }
 
 // The last line.
-pub(crate) fn totals(out: &mut [u8], record: PageReplay, tail: usize) -> usize
+pub(crate) fn totals(
+    out: &mut [u8],
+    pages: u64,
+    skipped: u64,
+    subframes: u64,
+    dsms: u64,
+    tail: usize,
+) -> usize
     requires { ⌜ 256 ≤ length (now out) ⌝ }
-    ensures { λ r. ⌜ Puts (totalsLine (state «record» [] [] [] .totals) tail) (now (out .entry)) 0 (now (out .exit)) r ⌝ }
+    ensures { λ r. ⌜ Puts (line (totalsParts pages skipped subframes dsms tail)) (now (out .entry)) 0 (now (out .exit)) r ⌝ }
 {
-    let mut line = [0u8; 160];
-    let many = lines::totals(
-        &mut line,
-        record.pages,
-        record.skipped,
-        record.subframes_done,
-        record.dsms_done,
-        tail,
-    );
-    text(out, 0, &line[..many])
+    end_of(lines::totals_at(out, 0, pages, skipped, subframes, dsms, tail))
 }
 
 // The only line, where the arguments are refused.
@@ -85,7 +96,5 @@ pub(crate) fn refused(out: &mut [u8], n: u8) -> usize
     requires { ⌜ 256 ≤ length (now out) ⌝ }
     ensures { λ r. ⌜ Puts (refusedLine n) (now (out .entry)) 0 (now (out .exit)) r ⌝ }
 {
-    let mut line = [0u8; 160];
-    let many = lines::refused(&mut line, n);
-    text(out, 0, &line[..many])
+    end_of(lines::refused_at(out, 0, n))
 }

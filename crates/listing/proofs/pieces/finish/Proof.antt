@@ -1,62 +1,58 @@
+-- `pieces::finish`: the room, the record, then the last line.
+-- Assumes nothing.
+use Rattle.listing.specs.PiecePromises.{state}
+use Rattle.listing.proofs.PieceSteps.{finish-short, finish-over, finish-stopped, finish-told}
 use borrow.Author.Needs.{needs}
 use Rattle.listing.proofs.pieces.finish.Statement.{statement}
 use Rattle.listing.proofs.pieces.finish.Tie as tie
-use Rattle.listing.proofs.pieces.finish.Reads as reads
-use Rattle.listing.proofs.pieces.finish.Lts as lts
-use Rattle.listing.proofs.pieces.refuses.Reads as refuses-reads
-use Rattle.listing.proofs.put.totals.Reads as totals-reads
 
--- src/pieces.rt:276:9
 returns : tie.Need-returns
-returns c = ?
+returns c = search finish-short
 
--- src/pieces.rt:282:9
 returns-2 : tie.Need-returns-2
-returns-2 c = ?
+returns-2 c = 
+    let a = c .before .before .before .before .before .before .args in
+    finish-over (state (a .listing) (a .hkroot .now) (a .mack .now) (a .dsm .now)) (a .out .now) (c .before .if1 .left) (c .if2 .taken)
 
--- src/pieces.rt:290:9
 refuses-requires : tie.Need-refuses-requires
 refuses-requires c κs = search needs
 
--- src/pieces.rt:292:9
 same-length : tie.Need-same-length
 same-length c = search needs
 
--- src/pieces.rt:292:9
 same-length-2 : tie.Need-same-length-2
 same-length-2 c = search needs
 
--- src/pieces.rt:292:9
 same-length-3 : tie.Need-same-length-3
 same-length-3 c = search needs
 
--- src/pieces.rt:292:9
 returns-3 : tie.Need-returns-3
-returns-3 c = ?
+returns-3 c = 
+    let p = c .before .before .before .before .before .before .before .refuses in
+    let a = c .before .before .before .before .before .before .before .before .before .before .before .before .before .before .before .before .before .args in
+    finish-stopped (a .listing) (a .hkroot .now) (a .mack .now) (a .dsm .now) (a .out .now) (c .before .before .before .before .before .before .before .before .before .before .before .before .if1 .left) (p .ensures .0) (p .ensures .1) (c .if3 .taken)
 
--- src/pieces.rt:298:9
 totals-requires : tie.Need-totals-requires
 totals-requires c κs = search needs
 
--- src/pieces.rt:266:1
 same-length-4 : tie.Need-same-length-4
 same-length-4 c = search needs
 
--- src/pieces.rt:266:1
 same-length-5 : tie.Need-same-length-5
 same-length-5 c = search needs
 
--- src/pieces.rt:266:1
 same-length-6 : tie.Need-same-length-6
 same-length-6 c = search needs
 
--- src/pieces.rt:266:1
 same-length-7 : tie.Need-same-length-7
 same-length-7 c = search needs
 
--- src/pieces.rt:266:1
 returns-4 : tie.Need-returns-4
-returns-4 c = ?
+returns-4 c = 
+    let p = c .before .before .before .before .before .before .before .before .before .before .before .before .refuses in
+    let a = c .before .before .before .before .before .before .before .before .before .before .before .before .before .before .before .before .before .before .before .before .before .before .args in
+    finish-told (a .listing) (a .hkroot .now) (a .mack .now) (a .dsm .now) (a .out .now) (c .before .before .before .before .before .before .before .before .before .before .before .before .before .before .before .before .before .if1 .left) (p .ensures .0) (p .ensures .1) (c .before .before .before .before .before .if3 .left) (c .before .before .before .before .before .before .before .before .before .before .before .before .before .before .before .before .if2 .left)
+    (c .before .before .totals .ensures)
 
 pub finish-spec : {M : Type 1} → statement M
 finish-spec =

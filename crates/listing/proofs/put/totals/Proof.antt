@@ -1,42 +1,26 @@
+-- `put::totals`: the line has room.
+-- Assumes nothing.
+use native.Mathlib.Omega.{arith}
+use Rattle.listing.proofs.Putting.{all-totals}
 use borrow.Author.Needs.{needs}
 use Rattle.listing.proofs.put.totals.Statement.{statement}
 use Rattle.listing.proofs.put.totals.Tie as tie
-use Rattle.listing.proofs.put.totals.Reads as reads
-use Rattle.listing.proofs.put.totals.Lts as lts
-use Rattle.listing.proofs.put.text.Reads as text-reads
-use Rattle.texts.proofs.lines.totals.Reads as totals-reads
 
--- src/put.rt:72:9
-totals-requires : tie.Need-totals-requires
-totals-requires c κs = search needs
+totals-at-requires : tie.Need-totals-at-requires
+totals-at-requires c κs = search needs
 
--- src/put.rt:80:18
-array-share-prefix-line : tie.Need-array-share-prefix-line
-array-share-prefix-line c = search needs
+end-of-requires : tie.Need-end-of-requires
+end-of-requires c κs = search needs
 
--- src/put.rt:80:18
-slice-aggregate-text : tie.Need-slice-aggregate-text
-slice-aggregate-text c = search needs
-
--- src/put.rt:80:5
-text-requires : tie.Need-text-requires
-text-requires c κs = ?
-
--- src/put.rt:67:1
 same-length : tie.Need-same-length
 same-length c = search needs
 
--- src/put.rt:67:1
 returns : tie.Need-returns
-returns c = ?
+returns c =
+    let s = c .before .before .before .before .before .before in
+    let p = c .before .before .before .totals-at in
+    all-totals (s .args .pages) (s .args .skipped) (s .args .subframes) (s .args .dsms) (s .args .tail) (s .args .out .now) (p .result) (omega (arith, s .fits .pages))
+    (omega (arith, s .fits .skipped)) (omega (arith, s .fits .subframes)) (omega (arith, s .fits .dsms)) (omega (arith, s .fits .tail)) (s .pre) (p .ensures) (c .end-of .ensures)
 
 pub totals-spec : {M : Type 1} → statement M
-totals-spec =
-    tie.close
-    (tie.spec
-    totals-requires
-    array-share-prefix-line
-    slice-aggregate-text
-    text-requires
-    same-length
-    returns)
+totals-spec = tie.close (tie.spec totals-at-requires end-of-requires same-length returns)
