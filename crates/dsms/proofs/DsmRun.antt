@@ -9,45 +9,46 @@ use lib.Dec.{leb, eqb}
 use lib.ListN.{length, getD, take, drop, length-append, length-drop, List·getD-append}
 use lib.Seq.{length-take-le, getD-take, getD-drop, getD-append-add, ext-getD}
 use borrow.Author.Tests.{leb-true, leb-false, eq-eqb}
+use Rattle.layouts.specs.Lists.{put, all}
 use Rattle.layouts.specs.Bits.{the, value, field, bit}
 use Rattle.layouts.specs.Sizes.{size, krootBlocks, pkrBlocks}
 use Rattle.layouts.specs.DsmHeader.{dsmType}
 use Rattle.layouts.specs.DsmKroot.{krootLayout}
 use Rattle.layouts.specs.DsmPkr.{pkrLayout}
 use Rattle.layouts.proofs.Fields.{field-in-byte}
-use Rattle.dsms.specs.Dsm.{blockOf, put, counted}
-use Rattle.dsms.specs.DsmRecovery.{Call, fed, firstCopy, counts, allFed, isWhole}
+use Rattle.dsms.specs.Dsm.{krootCount, pkrCount, counted}
+use Rattle.dsms.specs.DsmRecovery.{Call, idIn, blockIn, fed, firstCopy, counts, allFed, isWhole, runId}
 use Rattle.runs.proofs.Basics.{and-true}
 
 -- a run with one call more
-pub fed-more : (n : ℕ) (r : List Call) (c : Call) → fed n (r ++ (c ∷ [])) ≡ cond (fed n r) true (eqb (blockOf (c .header)) n)
+pub fed-more : (n : ℕ) (r : List Call) (c : Call) → fed n (r ++ (c ∷ [])) ≡ cond (fed n r) true (eqb (blockIn c) n)
 unfolding fed
-fed-more n [] c = go (eqb (blockOf (c .header)) n)
+fed-more n [] c = go (eqb (blockIn c) n)
   where
     go : (b : Bool) → cond b true false ≡ b
     go true = refl
     go false = refl
-fed-more n (d ∷ r) c = go (eqb (blockOf (d .header)) n) (fed-more n r c)
+fed-more n (d ∷ r) c = go (eqb (blockIn d) n) (fed-more n r c)
   where
-    go : (b : Bool) → fed n (r ++ (c ∷ [])) ≡ cond (fed n r) true (eqb (blockOf (c .header)) n)
-        → cond b true (fed n (r ++ (c ∷ []))) ≡ cond (cond b true (fed n r)) true (eqb (blockOf (c .header)) n)
+    go : (b : Bool) → fed n (r ++ (c ∷ [])) ≡ cond (fed n r) true (eqb (blockIn c) n)
+        → cond b true (fed n (r ++ (c ∷ []))) ≡ cond (cond b true (fed n r)) true (eqb (blockIn c) n)
     go true h = refl
     go false h = h
 
 pub copy-kept : (n : ℕ) (r : List Call) (c : Call) → fed n r ≡ true → firstCopy n (r ++ (c ∷ [])) ≡ firstCopy n r
 unfolding fed firstCopy
 copy-kept n [] c h = let z : _≡_ {A = ℕ} 0 1 = cc in absurd (omega arith)
-copy-kept n (d ∷ r) c h = go (eqb (blockOf (d .header)) n) (copy-kept n r c) h
+copy-kept n (d ∷ r) c h = go (eqb (blockIn d) n) (copy-kept n r c) h
   where
     go : (b : Bool) → (fed n r ≡ true → firstCopy n (r ++ (c ∷ [])) ≡ firstCopy n r) → cond b true (fed n r) ≡ true
         → cond b (d .block) (firstCopy n (r ++ (c ∷ []))) ≡ cond b (d .block) (firstCopy n r)
     go true ih h = refl
     go false ih h = ih h
 
-pub copy-new : (n : ℕ) (r : List Call) (c : Call) → fed n r ≡ false → blockOf (c .header) ≡ n → firstCopy n (r ++ (c ∷ [])) ≡ c .block
+pub copy-new : (n : ℕ) (r : List Call) (c : Call) → fed n r ≡ false → blockIn c ≡ n → firstCopy n (r ++ (c ∷ [])) ≡ c .block
 unfolding fed firstCopy
-copy-new n [] c h e = rw (eq-eqb (blockOf (c .header)) n e)
-copy-new n (d ∷ r) c h e = go (eqb (blockOf (d .header)) n) (λ k. copy-new n r c k e) h
+copy-new n [] c h e = rw (eq-eqb (blockIn c) n e)
+copy-new n (d ∷ r) c h e = go (eqb (blockIn d) n) (λ k. copy-new n r c k e) h
   where
     go : (b : Bool) → (fed n r ≡ false → firstCopy n (r ++ (c ∷ [])) ≡ c .block) → cond b true (fed n r) ≡ false
         → cond b (d .block) (firstCopy n (r ++ (c ∷ []))) ≡ c .block
@@ -57,7 +58,7 @@ copy-new n (d ∷ r) c h e = go (eqb (blockOf (d .header)) n) (λ k. copy-new n 
 pub copy-none : (n : ℕ) (r : List Call) → fed n r ≡ false → firstCopy n r ≡ []
 unfolding fed firstCopy
 copy-none n [] h = refl
-copy-none n (d ∷ r) h = go (eqb (blockOf (d .header)) n) (copy-none n r) h
+copy-none n (d ∷ r) h = go (eqb (blockIn d) n) (copy-none n r) h
   where
     go : (b : Bool) → (fed n r ≡ false → firstCopy n r ≡ []) → cond b true (fed n r) ≡ false → cond b (d .block) (firstCopy n r) ≡ []
     go true ih h = let z : _≡_ {A = ℕ} 0 1 = cc in absurd (omega arith)
@@ -80,6 +81,9 @@ or-no false = refl
 abbrev pub blockAt : ℕ → List ℕ → List ℕ
 blockAt n m = take 13 (drop (13 * n) m)
 
+abbrev pub placed : List ℕ → ℕ → List ℕ → List ℕ
+placed m n block = put m (13 * n) 13 block
+
 pub block-long : (n : ℕ) (m : List ℕ) → length m ≡ 208 → n < 16 → length (blockAt n m) ≡ 13
 block-long n m l h = length-take-le 13 (drop (13 * n) m) (rw length-drop (omega arith))
 
@@ -90,36 +94,40 @@ module _ (m : List ℕ) (b : ℕ) (block : List ℕ) (lm : length m ≡ 208) (lb
   front-long : length (take (13 * b) m) ≡ 13 * b
   front-long = length-take-le (13 * b) m (omega arith)
 
-  pub put-long : length (put m b block) ≡ 208
+  pub put-long : length (placed m b block) ≡ 208
   put-long = rw (length-append, length-append, front-long, length-drop) (omega arith)
 
-  put-before : (j : ℕ) → j < 13 * b → getD (put m b block) j 0 ≡ getD m j 0
+  put-before : (j : ℕ) → j < 13 * b → getD (placed m b block) j 0 ≡ getD m j 0
   put-before j h =
       ap (λ (l : List ℕ). getD l j 0) (append-assoc (take (13 * b) m) block (drop (13 * b + 13) m))
       ∙ List·getD-append (take (13 * b) m) (block ++ drop (13 * b + 13) m) 0 j (rw front-long h) ∙ getD-take (13 * b) m j 0 h
 
-  put-at : (k : ℕ) → k < 13 → getD (put m b block) (13 * b + k) 0 ≡ getD block k 0
+  put-at : (k : ℕ) → k < 13 → getD (placed m b block) (13 * b + k) 0 ≡ getD block k 0
   put-at k h =
       ap (λ (l : List ℕ). getD l (13 * b + k) 0) (append-assoc (take (13 * b) m) block (drop (13 * b + 13) m))
       ∙ ap (λ (j : ℕ). getD (take (13 * b) m ++ (block ++ drop (13 * b + 13) m)) (j + k) 0) (sym front-long)
-      ∙ getD-append-add (take (13 * b) m) (block ++ drop (13 * b + 13) m) k 0 ∙ List·getD-append block (drop (13 * b + 13) m) 0 k (rw lb h)
+      ∙ getD-append-add (take (13 * b) m) (block ++ drop (13 * b + 13) m) k 0
+      ∙ List·getD-append block (drop (13 * b + 13) m) 0 k (rw lb h)
 
-  put-after : (k : ℕ) → getD (put m b block) (13 * b + 13 + k) 0 ≡ getD m (13 * b + 13 + k) 0
+  put-after : (k : ℕ) → getD (placed m b block) (13 * b + 13 + k) 0 ≡ getD m (13 * b + 13 + k) 0
   put-after k =
       let ends : 13 * b + 13 ≡ length (take (13 * b) m ++ block) = sym (length-append (take (13 * b) m) block ∙ rw (front-long, lb)) in
-      ap (λ (j : ℕ). getD (put m b block) (j + k) 0) ends ∙ getD-append-add (take (13 * b) m ++ block) (drop (13 * b + 13) m) k 0 ∙ getD-drop (13 * b + 13) m k 0
+      ap (λ (j : ℕ). getD (placed m b block) (j + k) 0) ends ∙ getD-append-add (take (13 * b) m ++ block) (drop (13 * b + 13) m) k 0
+      ∙ getD-drop (13 * b + 13) m k 0
 
-  pub block-put : blockAt b (put m b block) ≡ block
+  pub block-put : blockAt b (placed m b block) ≡ block
   block-put =
-      ext-getD 0 (blockAt b (put m b block)) block (block-long b (put m b block) put-long hb ∙ sym lb)
-      (λ k h. let h : k < 13 = rw (block-long b (put m b block) put-long hb) at h in block-byte b (put m b block) k h ∙ put-at k h)
+      ext-getD 0 (blockAt b (placed m b block)) block (block-long b (placed m b block) put-long hb ∙ sym lb)
+      (λ k h. let h : k < 13 = rw (block-long b (placed m b block) put-long hb) at h in block-byte b (placed m b block) k h ∙ put-at k h)
 
-  pub block-other : (n : ℕ) → n < 16 → (n ≡ b → ⊥) → blockAt n (put m b block) ≡ blockAt n m
+  pub block-other : (n : ℕ) → n < 16 → (n ≡ b → ⊥) → blockAt n (placed m b block) ≡ blockAt n m
   block-other n hn ne =
-      ext-getD 0 (blockAt n (put m b block)) (blockAt n m) (block-long n (put m b block) put-long hn ∙ sym (block-long n m lm hn))
-      (λ k h. let h : k < 13 = rw (block-long n (put m b block) put-long hn) at h in block-byte n (put m b block) k h ∙ go k h (leb (13 * n + k) (13 * b)) refl ∙ sym (block-byte n m k h))
+      ext-getD 0 (blockAt n (placed m b block)) (blockAt n m) (block-long n (placed m b block) put-long hn ∙ sym (block-long n m lm hn))
+      (λ k h.
+      let h : k < 13 = rw (block-long n (placed m b block) put-long hn) at h in
+      block-byte n (placed m b block) k h ∙ go k h (leb (13 * n + k) (13 * b)) refl ∙ sym (block-byte n m k h))
     where
-      go : (k : ℕ) → k < 13 → (x : Bool) → leb (13 * n + k) (13 * b) ≡ x → getD (put m b block) (13 * n + k) 0 ≡ getD m (13 * n + k) 0
+      go : (k : ℕ) → k < 13 → (x : Bool) → leb (13 * n + k) (13 * b) ≡ x → getD (placed m b block) (13 * n + k) 0 ≡ getD m (13 * n + k) 0
       go k h true e = put-before (13 * n + k) (omega (arith, leb-true (13 * n + k) (13 * b) e))
       go k h false e =
           let far : 13 * n + k ≡ 13 * b + 13 + (13 * n + k - (13 * b + 13)) = omega (arith, leb-false (13 * n + k) (13 * b) e) in
@@ -129,7 +137,8 @@ module _ (m : List ℕ) (b : ℕ) (block : List ℕ) (lm : length m ≡ 208) (lb
 pub counted-byte : (t : ℕ) (m l : List ℕ) → getD m 0 0 ≡ getD l 0 0 → counted t m ≡ counted t l
 unfolding counted
 counted-byte t m l e =
-    let half : field m 0 4 ≡ field l 0 4 = field-in-byte m 0 0 4 (omega arith) ∙ ap (λ (x : ℕ). x / 2 ^ 4 % 2 ^ 4) e ∙ sym (field-in-byte l 0 0 4 (omega arith)) in
+    let half : field m 0 4 ≡ field l 0 4 =
+    field-in-byte m 0 0 4 (omega arith) ∙ ap (λ (x : ℕ). x / 2 ^ 4 % 2 ^ 4) e ∙ sym (field-in-byte l 0 0 4 (omega arith)) in
     rw half
 
 pub first-byte : (m : List ℕ) → getD m 0 0 ≡ getD (blockAt 0 m) 0 0
@@ -140,7 +149,7 @@ pub counted-none : (t : ℕ) → counted t [] ≡ 0
 unfolding counted krootBlocks pkrBlocks field bit
 counted-none t = go (eqb t 0)
   where
-    go : (b : Bool) → cond b (size krootBlocks (value (the "NB_DK" krootLayout) [])) (size pkrBlocks (value (the "NB_DP" pkrLayout) [])) ≡ 0
+    go : (b : Bool) → cond b (krootCount []) (pkrCount []) ≡ 0
     go true = refl
     go false = refl
 
@@ -149,12 +158,12 @@ pub fed-stays : (n : ℕ) (r : List Call) (c : Call) → fed n r ≡ true → fe
 fed-stays n r c h = fed-more n r c ∙ rw h
 
 pub all-stays : (n : ℕ) (r : List Call) (c : Call) → allFed n r ≡ true → allFed n (r ++ (c ∷ [])) ≡ true
-unfolding allFed
+unfolding all
 all-stays zero r c h = refl
 all-stays (suc n) r c h = let p = and-true (allFed n r) (fed n r) h in rw (all-stays n r c (p .0), fed-stays n r c (p .1))
 
 pub fed-first : (n : ℕ) (r : List Call) → 0 < n → allFed n r ≡ true → fed 0 r ≡ true
-unfolding allFed
+unfolding all
 fed-first zero r l h = absurd (omega arith)
 fed-first (suc zero) r l h = and-true (allFed zero r) (fed zero r) h .1
 fed-first (suc (suc n)) r l h = fed-first (suc n) r (omega arith) (and-true (allFed (suc n) r) (fed (suc n) r) h .0)
@@ -163,12 +172,19 @@ pub nonzero : (n : ℕ) → not (eqb n 0) ≡ true → 0 < n
 nonzero zero e = let z : _≡_ {A = ℕ} 0 1 = cc in absurd (omega arith)
 nonzero (suc n) e = omega arith
 
+pub whole-parts : (i : ℕ) (r : List Call) → isWhole i r ≡ true → (0 < counts i r) × (allFed (counts i r) r ≡ true)
+whole-parts i r w = let p = and-true (not (eqb (counts i r) 0)) (allFed (counts i r) r) w in (nonzero (counts i r) (p .0), p .1)
+
 pub counts-stay : (i : ℕ) (r : List Call) (c : Call) → isWhole i r ≡ true → counts i (r ++ (c ∷ [])) ≡ counts i r
-counts-stay i r c w =
-    let p = and-true (not (eqb (counts i r) 0)) (allFed (counts i r) r) w in
-    ap (counted (dsmType i)) (copy-kept 0 r c (fed-first (counts i r) r (nonzero (counts i r) (p .0)) (p .1)))
+counts-stay i r c w = let p = whole-parts i r w in ap (counted (dsmType i)) (copy-kept 0 r c (fed-first (counts i r) r (p .0) (p .1)))
 
 pub whole-stays : (i : ℕ) (r : List Call) (c : Call) → isWhole i r ≡ true → isWhole i (r ++ (c ∷ [])) ≡ true
 whole-stays i r c w =
     let p = and-true (not (eqb (counts i r) 0)) (allFed (counts i r) r) w in
     rw (counts-stay i r c w, p .0, all-stays (counts i r) r c (p .1))
+
+-- the ID of a run is that of its last call
+pub id-of-last : (r : List Call) (c : Call) → runId (r ++ (c ∷ [])) ≡ idIn c
+id-of-last [] c = refl
+id-of-last (x ∷ []) c = refl
+id-of-last (x ∷ y ∷ r) c = id-of-last (y ∷ r) c

@@ -8,7 +8,7 @@ use lib.ListN.{length, getD, set, replicate}
 use lib.Dec.{eqb, eqb·suc-zero}
 use Rattle.layouts.specs.Answer.{refused, nothing, gives, refusal}
 use Rattle.layouts.specs.DsmHeader.{dsmType}
-use Rattle.dsms.specs.Dsm.{State, Fed, idOf, blockOf, feedChecks, begun, put, stored, count, whole, finished, taken, feed}
+use Rattle.dsms.specs.Dsm.{State, Fed, idOf, blockOf, feedChecks, fresh, begun, copied, stored, count, whole, completed, finished, taken, feed}
 use Rattle.dsms.proofs.Blocks.{header-id, header-block, admitted-then}
 use Rattle.dsms.proofs.DsmRun.{put-long}
 
@@ -20,7 +20,7 @@ sound-begun : (d : State) (i : ℕ) → Sound d → i ≤ 15 → Sound (begun d 
 unfolding begun
 sound-begun d i h l = go (d .came && eqb (d .id) i)
   where
-    go : (b : Bool) → Sound (cond b d (record { id = i; came = true; held = replicate 16 false; done = false; memory = d .memory }))
+    go : (b : Bool) → Sound (cond b d (fresh d i))
     go true = h
     go false = record { d208 = h .d208; id-low = l }
 
@@ -28,7 +28,7 @@ sound-stored : (d : State) (n : ℕ) (block : List ℕ) → Sound d → n < 16 �
 unfolding stored
 sound-stored d n block h l e = go (getD (d .held) n false)
   where
-    go : (b : Bool) → Sound (cond b d (record { id = d .id; came = d .came; held = set (d .held) n true; done = d .done; memory = put (d .memory) n block }))
+    go : (b : Bool) → Sound (cond b d (copied d n block))
     go true = h
     go false = record { d208 = put-long (d .memory) n block (h .d208) e l; id-low = h .id-low }
 
@@ -38,7 +38,7 @@ sound-finished d h = go (whole d)
   where
     go : (b : Bool)
         → Sound (cond {A = Fed} b
-        (record { state = record { id = d .id; came = d .came; held = d .held; done = true; memory = d .memory }; answer = gives (d .id ∷ dsmType (d .id) ∷ 13 * count d ∷ []) })
+        (record { state = completed d; answer = gives (d .id ∷ dsmType (d .id) ∷ 13 * count d ∷ []) })
         (record { state = d; answer = nothing }) .state)
     go true = record { d208 = h .d208; id-low = h .id-low }
     go false = h
@@ -57,5 +57,7 @@ sound-fed d header block h = go (refusal (feedChecks (d .id) (d .memory) block))
   where
     go : (q : ℕ) → q ≡ refusal (feedChecks (d .id) (d .memory) block)
         → Sound (cond {A = Fed} (eqb q 0) (taken (begun d (idOf header)) (blockOf header) block) (record { state = d; answer = refused q }) .state)
-    go zero e = sound-taken (begun d (idOf header)) (blockOf header) block (sound-begun d (idOf header) h (header-id header)) (header-block header) (admitted-then (d .id) (d .memory) block e refl .1)
+    go zero e =
+        sound-taken (begun d (idOf header)) (blockOf header) block (sound-begun d (idOf header) h (header-id header)) (header-block header)
+        (admitted-then (d .id) (d .memory) block e refl .1)
     go (suc q) e = rw (eqb·suc-zero q) h

@@ -9,7 +9,7 @@ use Rattle.layouts.specs.Answer.{Answer, refused, nothing, gives}
 use Rattle.layouts.specs.declared.dsm_header.DsmType.{DsmType}
 use Rattle.layouts.specs.declared.dsm_header.DsmType.the-variants.{Kroot, Pkr}
 use Rattle.dsms.specs.Dsm.{State, Fed}
-use Rattle.dsms.specs.DsmPromises.{state, meaning-dsm, meaning-shown, NewDsm, FeedDsm, ViewDsmShown, ViewDsm}
+use Rattle.dsms.specs.DsmPromises.{outcome, meaning-dsm, meaning-shown, NewDsm, FeedDsm, ViewDsmShown, ViewDsm}
 use Rattle.dsms.specs.declared.dsm.CollectDsm.{CollectDsm}
 use Rattle.dsms.specs.declared.dsm.DsmAnswer.{DsmAnswer}
 use Rattle.dsms.specs.declared.dsm.DsmAnswer.the-variants.{Refused, Nothing, Complete}
@@ -35,20 +35,20 @@ undo-dsm Nothing = refl
 undo-dsm (Complete i Kroot n) = refl
 undo-dsm (Complete i Pkr n) = refl
 
-abbrev back-shown : Answer → DsmShown
+abbrev pub back-shown : Answer → DsmShown
 back-shown (refused n) = NotShown n
 back-shown nothing = NothingShown
 back-shown (gives []) = NothingShown
 back-shown (gives (f ∷ [])) = NothingShown
 back-shown (gives (f ∷ n ∷ l)) = Shown n
 
-undo-shown : (r : DsmShown) → back-shown (meaning-shown r) ≡ r
+pub undo-shown : (r : DsmShown) → back-shown (meaning-shown r) ≡ r
 undo-shown (Shown n) = refl
 undo-shown NothingShown = refl
 undo-shown (NotShown n) = refl
 
 -- the record is its state without the memory
-abbrev back-state : State → CollectDsm
+abbrev pub back-state : State → CollectDsm
 back-state s = record { id = s .id; came = s .came; held = s .held; done = s .done }
 
 pub new-dsm : (r s : CollectDsm) → NewDsm r → NewDsm s → r ≡ s
@@ -57,9 +57,10 @@ new-dsm r s p q = ap back-state (p ∙ sym q)
 abbrev back-fed : Fed → DsmFed
 back-fed f = record { collector = back-state (f .state); answer = back-dsm (f .answer) }
 
-pub feed-dsm : (c : CollectDsm) (memory : List ℕ) (header : ℕ) (block : List ℕ) (r s : DsmFed) (x y : List ℕ) → FeedDsm c memory header block r x → FeedDsm c memory header block s y → (r ≡ s) × (x ≡ y)
+pub feed-dsm : (c : CollectDsm) (memory : List ℕ) (header : ℕ) (block : List ℕ) (r s : DsmFed) (x y : List ℕ)
+    → FeedDsm c memory header block r x → FeedDsm c memory header block s y → (r ≡ s) × (x ≡ y)
 feed-dsm c memory header block r s x y p q =
-    let e : _≡_ {A = Fed} (record { state = state (r .collector) x; answer = meaning-dsm (r .answer) }) (record { state = state (s .collector) y; answer = meaning-dsm (s .answer) }) = p ∙ sym q in
+    let e : outcome r x ≡ outcome s y = p ∙ sym q in
     (whole r ∙ ap back-fed e ∙ sym (whole s), ap (λ (f : Fed). f .state .memory) e)
   where
     whole : (f : DsmFed) → _≡_ {A = DsmFed} f (record { collector = f .collector; answer = back-dsm (meaning-dsm (f .answer)) })

@@ -8,14 +8,15 @@ use Rattle.layouts.specs.Answer.{Answer, refused, nothing, gives}
 use Rattle.layouts.specs.Meaning.{meaning-type}
 use Rattle.layouts.specs.declared.dsm_header.DsmType.{DsmType}
 use Rattle.layouts.specs.declared.dsm_header.DsmType.the-variants.{Kroot, Pkr}
-use Rattle.dsms.specs.DsmView.{Kept, ViewKept, IdKept, TypeKept, DataKept, ViewAnswer, FeedInPlace}
+use Rattle.dsms.specs.Agreed.{SameDsm, Agreed}
+use Rattle.dsms.specs.DsmView.{Kept, keptOf, ViewKept, IdKept, TypeKept, DataKept, ViewAnswer, FeedInPlace}
 use Rattle.dsms.specs.declared.dsm.CollectDsm.{CollectDsm}
 use Rattle.dsms.specs.declared.dsm.DsmAnswer.{DsmAnswer}
 use Rattle.dsms.specs.declared.dsm.DsmFed.{DsmFed}
 use Rattle.dsms.specs.declared.dsm_view.Dsm.{Dsm}
-use Rattle.dsms.proofs.DsmUnique.{type-back, back-dsm, undo-dsm, feed-dsm}
+use Rattle.dsms.proofs.DsmUnique.{type-back, back-dsm, undo-dsm, new-dsm, feed-dsm, view-dsm-shown, view-dsm}
 
-abbrev back-kind : Answer → DsmType
+abbrev pub back-kind : Answer → DsmType
 back-kind (refused n) = Kroot
 back-kind nothing = Kroot
 back-kind (gives []) = Kroot
@@ -25,15 +26,9 @@ undo-kind : (t : DsmType) → back-kind (meaning-type t) ≡ t
 undo-kind Kroot = refl
 undo-kind Pkr = refl
 
--- two of them are one to `==` of the Rust, which compares a slice by its bytes
-pub record Same (r s : Dsm) : Type 0 where
-  pub id : r .id ≡ s .id
-  pub kind : r .«dsm_type» ≡ s .«dsm_type»
-  pub bytes : now (r .«data») ≡ now (s .«data»)
-
-pub view-kept : (c : CollectDsm) (memory : List ℕ) (r s : Dsm) → ViewKept c memory r → ViewKept c memory s → Same r s
+pub view-kept : (c : CollectDsm) (memory : List ℕ) (r s : Dsm) → ViewKept c memory r → ViewKept c memory s → SameDsm r s
 view-kept c memory r s p q =
-    let e : _≡_ {A = Kept} (record { id = r .id; kind = meaning-type (r .«dsm_type»); bytes = now (r .«data») }) (record { id = s .id; kind = meaning-type (s .«dsm_type»); bytes = now (s .«data») }) = p ∙ sym q in
+    let e : keptOf (r .id) (r .«dsm_type») (now (r .«data»)) ≡ keptOf (s .id) (s .«dsm_type») (now (s .«data»)) = p ∙ sym q in
     record {
       id = ap (λ (x : Kept). x .id) e;
       kind = sym (undo-kind (r .«dsm_type»)) ∙ ap (λ (x : Kept). back-kind (x .kind)) e ∙ undo-kind (s .«dsm_type»);
@@ -57,3 +52,17 @@ pub feed-in-place : (c : CollectDsm) (memory : List ℕ) (header : ℕ) (block :
 feed-in-place c memory header block r s k l x y p q =
     let e = feed-dsm c memory header block (record { collector = k; answer = r }) (record { collector = l; answer = s }) x y p q in
     (ap (λ (f : DsmFed). f .answer) (e .0), ap (λ (f : DsmFed). f .collector) (e .0), e .1)
+
+pub agreed : Agreed
+agreed = record {
+  new = new-dsm;
+  feed = feed-dsm;
+  view-shown = view-dsm-shown;
+  view = view-dsm;
+  feed-in-place = feed-in-place;
+  view-dsm = view-kept;
+  dsm-id = id-kept;
+  dsm-type = type-kept;
+  dsm-data = data-kept;
+  view-answer = view-answer;
+}

@@ -2,28 +2,25 @@
 -- Assumes nothing.
 use mathlib.Core.Path.{_≡_, refl, sym, ap, _∙_}
 use mathlib.Core.List.{List, [], _∷_}
-use mathlib.Core.Bool.{Bool, true, false, cond, not, _&&_}
 use Prim.Native.Nat.{ℕ, _*_, _≤_, _<_}
-use native.Mathlib.Omega.{arith}
-use lib.Dec.{ltb, eqb}
 use lib.ListN.{length, take}
 use lib.Seq.{length-take-le}
-use borrow.Author.Tests.{lt-ltb, le-ltb, eqb-false}
-use Rattle.layouts.specs.Answer.{Answer, refused, nothing, gives, refusal, shown}
+use borrow.Author.Tests.{lt-ltb, le-ltb}
+use Rattle.layouts.specs.Answer.{Answer, refused, nothing, gives, shown}
 use Rattle.layouts.specs.DsmHeader.{dsmType}
 use Rattle.layouts.specs.Meaning.{meaning-type}
 use Rattle.layouts.specs.declared.dsm_header.DsmType.{DsmType}
 use Rattle.dsms.specs.Dsm.{State, count, view}
 use Rattle.dsms.specs.DsmPromises.{state, meaning-dsm, meaning-shown, FeedDsm}
-use Rattle.dsms.specs.DsmView.{Kept, whereShown, shownId, shownType, kept, ToldApart, namedBy, FeedInPlace}
-use Rattle.dsms.specs.DsmViewInner.{told}
+use Rattle.dsms.specs.DsmView.{Kept, keptOf, whereShown, shownId, shownType, kept, ToldApart, namedBy, FeedInPlace}
+use Rattle.dsms.specs.inner.DsmView.{told}
 use Rattle.dsms.specs.declared.dsm.CollectDsm.{CollectDsm}
 use Rattle.dsms.specs.declared.dsm.DsmAnswer.{DsmAnswer}
 use Rattle.dsms.specs.declared.dsm.DsmAnswer.the-variants.{Refused, Nothing, Complete}
 use Rattle.dsms.specs.declared.dsm.DsmFed.{DsmFed}
 use Rattle.dsms.specs.declared.dsm.DsmShown.{DsmShown}
 use Rattle.dsms.specs.declared.dsm.DsmShown.the-variants.{Shown, Nothing as NothingShown, Refused as NotShown}
-use Rattle.dsms.proofs.Blocks.{meant, view-fits}
+use Rattle.dsms.proofs.Blocks.{meant, shown-size}
 
 -- The ID, after the question beside it.
 module _ (s : State) {x : DsmShown} (e : meaning-shown x ≡ view s) where
@@ -58,11 +55,12 @@ module _ (s : State) {i : ℕ} (e : i ≡ shownId s) where
 
 -- The struct, from its three fields.
 pub kept-of : (s : State) (t : DsmType) {i : ℕ} {bytes : List ℕ} → i ≡ shownId s → meaning-type t ≡ shownType s → bytes ≡ shown (s .memory) (view s)
-    → _≡_ {A = Kept} (record { id = i; kind = meaning-type t; bytes = bytes }) (kept s)
+    → keptOf i t bytes ≡ kept s
 kept-of s t e f g = rw (e, f, g)
 
 -- The record that is stored is the one that `feed` hands back.
-pub stored-back : (k : CollectDsm) (m : List ℕ) (h : ℕ) (block : List ℕ) (r : DsmFed) (after : List ℕ) → FeedDsm k m h block r after → FeedInPlace k m h block (r .answer) (r .collector) after
+pub stored-back : (k : CollectDsm) (m : List ℕ) (h : ℕ) (block : List ℕ) (r : DsmFed) (after : List ℕ) → FeedDsm k m h block r after
+    → FeedInPlace k m h block (r .answer) (r .collector) after
 stored-back k m h block r after e = e
 
 -- The question's answer with what the struct holds.
@@ -76,40 +74,30 @@ module _ (i : ℕ) (t : DsmType) (bytes : List ℕ) {x : DsmShown} where
   pub told-shown : {n : ℕ} → x ≡ Shown n → Complete i t (length bytes) ≡ told i t bytes x
   told-shown g = rw g
 
--- what is shown is 13 x count, and not empty
-shown-size : (s : State) {n : ℕ} → gives (0 ∷ n ∷ []) ≡ view s → (n ≡ 13 * count s) × (0 < n)
-unfolding view refusal
-shown-size s e = go (eqb (length (s .memory)) 208) (ltb 15 (s .id)) (s .done) (eqb (count s) 0) refl e
-  where
-    go : (a b c d : Bool) {n : ℕ} → eqb (count s) 0 ≡ d
-        → gives (0 ∷ n ∷ []) ≡ cond (eqb (cond (not a) 1 (cond b 12 0)) 0) (cond (c && not d) (gives (0 ∷ 13 * count s ∷ [])) nothing) (refused (cond (not a) 1 (cond b 12 0)))
-        → (n ≡ 13 * count s) × (0 < n)
-    go true false true false {n} l f = let k : n ≡ 13 * count s = cc in (k, omega (arith, eqb-false (count s) 0 l))
-    go true false true true l f = let z : _≡_ {A = ℕ} 0 1 = cc in absurd (omega arith)
-    go true false false d l f = let z : _≡_ {A = ℕ} 0 1 = cc in absurd (omega arith)
-    go true true c d l f = let z : _≡_ {A = ℕ} 0 1 = cc in absurd (omega arith)
-    go false b c d l f = let z : _≡_ {A = ℕ} 0 1 = cc in absurd (omega arith)
-
 pub told-apart : (s : State) → ToldApart s
 unfolding shownId shownType shown
 told-apart s = record {
   refused-none = λ n e. rw e;
   nothing-none = λ e. rw e;
-  shown-some = λ n e. (ap (λ (a : Answer). length (shown (s .memory) a)) e ∙ length-take-le n (s .memory) (view-fits s (sym e)), shown-size s (sym e) .1);
+  shown-some = λ n e.
+      let z = shown-size s (sym e) in
+      (ap (λ (a : Answer). length (shown (s .memory) a)) e ∙ length-take-le n (s .memory) (z .fits), z .some);
 }
 
 -- The answer, from the struct and the question.
-module _ (k : CollectDsm) (m : List ℕ) (i : ℕ) (t : DsmType) (bytes : List ℕ) (e : _≡_ {A = Kept} (record { id = i; kind = meaning-type t; bytes = bytes }) (kept (state k m))) where
+module _ (k : CollectDsm) (m : List ℕ) (i : ℕ) (t : DsmType) (bytes : List ℕ) (e : keptOf i t bytes ≡ kept (state k m)) where
   complete-kept : {n : ℕ} → gives (0 ∷ n ∷ []) ≡ view (state k m) → meaning-dsm (Complete i t (length bytes)) ≡ namedBy (state k m) (view (state k m))
   unfolding shownId shownType shown
   complete-kept {n} g =
       let same : i ≡ k .id = ap (λ (x : Kept). x .id) e ∙ rw (← g) in
       let kind : meaning-type t ≡ gives (dsmType (k .id) ∷ []) = ap (λ (x : Kept). x .kind) e ∙ rw (← g) in
       let part : bytes ≡ take n m = ap (λ (x : Kept). x .bytes) e ∙ rw (← g) in
-      let long : length bytes ≡ 13 * count (state k m) = ap length part ∙ length-take-le n m (view-fits (state k m) g) ∙ shown-size (state k m) g .0 in
+      let z = shown-size (state k m) g in
+      let long : length bytes ≡ 13 * count (state k m) = ap length part ∙ length-take-le n m (z .fits) ∙ z .size-is in
       meant i (length bytes) (dsmType (k .id)) t kind ∙ rw (same, long, ← g)
 
-  pub answer-kept : (x : DsmShown) {y : DsmAnswer} → meaning-shown x ≡ view (state k m) → y ≡ told i t bytes x → meaning-dsm y ≡ namedBy (state k m) (view (state k m))
+  pub answer-kept : (x : DsmShown) {y : DsmAnswer} → meaning-shown x ≡ view (state k m) → y ≡ told i t bytes x
+      → meaning-dsm y ≡ namedBy (state k m) (view (state k m))
   answer-kept (NotShown n) g h = ap meaning-dsm h ∙ rw (← g)
   answer-kept NothingShown g h = ap meaning-dsm h ∙ rw (← g)
   answer-kept (Shown n) g h = ap meaning-dsm h ∙ complete-kept g

@@ -1,4 +1,5 @@
 pub mod Blocks
+pub mod DsmHistory
 pub mod DsmRecovery
 pub mod DsmRun
 pub mod DsmSound

@@ -1,10 +1,11 @@
 -- The DSM collector: document 01, "A DSM from its blocks".
 -- Assumes nothing.
-use Prim.Native.Nat.{ℕ, zero, suc, _+_, _*_}
-use mathlib.Core.List.{List, [], _∷_, _++_}
+use Prim.Native.Nat.{ℕ, _*_}
+use mathlib.Core.List.{List, [], _∷_}
 use mathlib.Core.Bool.{Bool, true, false, cond, not, _&&_}
-use lib.ListN.{length, getD, take, drop, set, replicate}
+use lib.ListN.{length, getD, set, replicate}
 use lib.Dec.{ltb, eqb}
+use Rattle.layouts.specs.Lists.{put, all}
 use Rattle.layouts.specs.Answer.{Answer, refused, nothing, gives, Check, _when_, refusal}
 use Rattle.layouts.specs.Bits.{the, value}
 use Rattle.layouts.specs.Sizes.{size, krootBlocks, pkrBlocks}
@@ -37,33 +38,36 @@ feedChecks id memory block =
     1 when not (eqb (length memory) 208) ∷ 1 when not (eqb (length block) 13) ∷ 12 when ltb 15 id ∷ []
 
 -- "If no block came before, or the ID differs: forget the held flags and the done flag, and take the new ID."
-unfoldable pub begun : State → ℕ → State
-begun s i =
-    cond (s .came && eqb (s .id) i) s
-    (record { id = i; came = true; held = replicate 16 false; done = false; memory = s .memory })
+abbrev pub fresh : State → ℕ → State
+fresh s i = record { id = i; came = true; held = replicate 16 false; done = false; memory = s .memory }
 
--- block n in its place
-abbrev pub put : List ℕ → ℕ → List ℕ → List ℕ
-put memory n block = take (13 * n) memory ++ block ++ drop (13 * n + 13) memory
+unfoldable pub begun : State → ℕ → State
+begun s i = cond (s .came && eqb (s .id) i) s (fresh s i)
 
 -- "A block not held is copied; a held one keeps its first bytes, even if the repeat differs."
+abbrev pub copied : State → ℕ → List ℕ → State
+copied s n block =
+    record { id = s .id; came = s .came; held = set (s .held) n true; done = s .done; memory = put (s .memory) (13 * n) 13 block }
+
 unfoldable pub stored : State → ℕ → List ℕ → State
-stored s n block =
-    cond (getD (s .held) n false) s
-    (record { id = s .id; came = s .came; held = set (s .held) n true; done = s .done; memory = put (s .memory) n block })
+stored s n block = cond (getD (s .held) n false) s (copied s n block)
 
 -- "Count from the high half of byte 0 of block 0": the number of blocks that the readers of `layouts` give for the type, 0 where it is illegal
+abbrev pub krootCount : List ℕ → ℕ
+krootCount memory = size krootBlocks (value (the "NB_DK" krootLayout) memory)
+
+abbrev pub pkrCount : List ℕ → ℕ
+pkrCount memory = size pkrBlocks (value (the "NB_DP" pkrLayout) memory)
+
 unfoldable pub counted : ℕ → List ℕ → ℕ
-counted type memory =
-    cond (eqb type 0) (size krootBlocks (value (the "NB_DK" krootLayout) memory)) (size pkrBlocks (value (the "NB_DP" pkrLayout) memory))
+counted type memory = cond (eqb type 0) (krootCount memory) (pkrCount memory)
 
 abbrev pub count : State → ℕ
 count s = counted (dsmType (s .id)) (s .memory)
 
 -- the blocks below n are held
-unfoldable pub allHeld : List Bool → ℕ → Bool
-allHeld held zero = true
-allHeld held (suc n) = allHeld held n && getD held n false
+abbrev pub allHeld : List Bool → ℕ → Bool
+allHeld held n = all (λ k. getD held k false) n
 
 -- "When all counted blocks are held"; an illegal count never completes
 abbrev pub whole : State → Bool
@@ -75,13 +79,12 @@ pub record Fed : Type 0 where
   pub answer : Answer
 
 -- ".. done is set and the answer is an ID, a type and 13 x count."
+abbrev pub completed : State → State
+completed s = record { id = s .id; came = s .came; held = s .held; done = true; memory = s .memory }
+
 unfoldable pub finished : State → Fed
 finished s =
-    cond (whole s)
-    (record {
-      state = record { id = s .id; came = s .came; held = s .held; done = true; memory = s .memory };
-      answer = gives (s .id ∷ dsmType (s .id) ∷ 13 * count s ∷ []);
-    })
+    cond (whole s) (record { state = completed s; answer = gives (s .id ∷ dsmType (s .id) ∷ 13 * count s ∷ []) })
     (record { state = s; answer = nothing })
 
 -- "When done: nothing."

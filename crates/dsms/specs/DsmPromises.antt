@@ -31,9 +31,12 @@ meaning-shown (NotShown n) = refused n
 abbrev pub NewDsm : CollectDsm → Type 0
 NewDsm r = state r [] ≡ new []
 
+-- what a call gave, with the lent bytes after it
+abbrev pub outcome : DsmFed → List ℕ → Fed
+outcome r after = record { state = state (r .collector) after; answer = meaning-dsm (r .answer) }
+
 abbrev pub FeedDsm : CollectDsm → List ℕ → ℕ → List ℕ → DsmFed → List ℕ → Type 0
-FeedDsm c memory header block r after =
-    _≡_ {A = Fed} (record { state = state (r .collector) after; answer = meaning-dsm (r .answer) }) (feed (state c memory) header block)
+FeedDsm c memory header block r after = outcome r after ≡ feed (state c memory) header block
 
 abbrev pub ViewDsmShown : CollectDsm → List ℕ → DsmShown → Type 0
 ViewDsmShown c memory r = meaning-shown r ≡ view (state c memory)

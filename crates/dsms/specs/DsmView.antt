@@ -21,6 +21,9 @@ pub record Kept : Type 0 where
   pub kind : Answer
   pub bytes : List ℕ
 
+abbrev pub keptOf : ℕ → DsmType → List ℕ → Kept
+keptOf id kind bytes = record { id = id; kind = meaning-type kind; bytes = bytes }
+
 -- a number where a DSM is shown; "numbers that the form of an answer holds beside it are zero"
 abbrev pub whereShown : Answer → ℕ → ℕ
 whereShown (refused k) n = 0
@@ -47,8 +50,7 @@ pub record ToldApart (s : State) : Type 0 where
   pub shown-some : (n : ℕ) → view s ≡ gives (0 ∷ n ∷ []) → (length (kept s .bytes) ≡ n) × (0 < n)
 
 abbrev pub ViewKept : CollectDsm → List ℕ → Dsm → Type 0
-ViewKept c memory r =
-    _≡_ {A = Kept} (record { id = r .id; kind = meaning-type (r .«dsm_type»); bytes = now (r .«data») }) (kept (state c memory))
+ViewKept c memory r = keptOf (r .id) (r .«dsm_type») (now (r .«data»)) ≡ kept (state c memory)
 
 -- of a `Dsm` its ID, its type and its slice
 abbrev pub IdKept : Dsm → ℕ → Type 0

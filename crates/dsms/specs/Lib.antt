@@ -1,6 +1,7 @@
+pub mod Agreed
 pub mod Dsm
-pub mod DsmInner
+pub mod DsmHistory
 pub mod DsmPromises
 pub mod DsmRecovery
 pub mod DsmView
-pub mod DsmViewInner
+pub mod inner

@@ -5,15 +5,15 @@ use layouts::dsm_header::DsmType;
 use layouts::dsm_kroot;
 use layouts::dsm_pkr;
 ghost use mathlib.Core.Path.{_≡_};
-ghost use mathlib.Core.Bool.{Bool};
 ghost use mathlib.Core.List.{List, [], _∷_};
 ghost use Prim.Native.Nat.{ℕ, _+_, _*_, _≤_, _<_};
 ghost use lib.ListN.{length};
+ghost use Rattle.layouts.specs.Lists.{put};
 ghost use Rattle.layouts.specs.Answer.{gives, refusal as refusalOf};
 ghost use Rattle.layouts.specs.Meaning.{meaning-type};
-ghost use Rattle.dsms.specs.Dsm.{Fed, feedChecks, begun, put, counted, allHeld, stored, finished, taken};
-ghost use Rattle.dsms.specs.DsmInner.{stateOf};
-ghost use Rattle.dsms.specs.DsmPromises.{state, meaning-dsm, NewDsm, FeedDsm, ViewDsmShown, ViewDsm};
+ghost use Rattle.dsms.specs.Dsm.{feedChecks, begun, counted, allHeld};
+ghost use Rattle.dsms.specs.inner.Dsm.{Stored, Finished, Taken};
+ghost use Rattle.dsms.specs.DsmPromises.{state, NewDsm, FeedDsm, ViewDsmShown, ViewDsm};
 
 // What has been collected of the DSM with this ID; its bytes are lent by the caller.
 pub struct CollectDsm {
@@ -76,29 +76,21 @@ fn refuses(collector: CollectDsm, dsm: &[u8], block: &[u8]) -> u8
 fn begin(collector: CollectDsm, id: u8) -> CollectDsm
     ensures { λ r. ⌜ ((m : List ℕ) → state r m ≡ begun (state collector m) id) ⌝ }
 {
-    if !collector.came {
-        return CollectDsm {
-            id,
-            came: true,
-            held: [false; 16],
-            done: false,
-        };
+    if collector.came && collector.id == id {
+        return collector;
     }
-    if collector.id != id {
-        return CollectDsm {
-            id,
-            came: true,
-            held: [false; 16],
-            done: false,
-        };
+    CollectDsm {
+        id,
+        came: true,
+        held: [false; 16],
+        done: false,
     }
-    collector
 }
 
 // Block `n` goes to its place.
 fn copy_block(dsm: &mut [u8], n: usize, block: &[u8])
     requires { ⌜ (n < 16) × (length (now dsm) ≡ 208) × (length (now block) ≡ 13) ⌝ }
-    ensures { λ r. ⌜ now (dsm .exit) ≡ put (now (dsm .entry)) n (now (block .entry)) ⌝ }
+    ensures { λ r. ⌜ now (dsm .exit) ≡ put (now (dsm .entry)) (13 * n) 13 (now (block .entry)) ⌝ }
 {
     let at = 13 * n;
     let mut i = 0;
@@ -111,7 +103,7 @@ fn copy_block(dsm: &mut [u8], n: usize, block: &[u8])
 // The block is held: its first copy is kept.
 fn store(held: &mut [bool; 16], dsm: &mut [u8], n: usize, block: &[u8])
     requires { ⌜ (n < 16) × (length (now dsm) ≡ 208) × (length (now block) ≡ 13) ⌝ }
-    ensures { λ r. ⌜ ((id : ℕ) (came done : Bool) → stateOf id came (now (held .exit)) done (now (dsm .exit)) ≡ stored (stateOf id came (now (held .entry)) done (now (dsm .entry))) n (now (block .entry))) ⌝ }
+    ensures { λ r. ⌜ Stored (now (held .entry)) (now (dsm .entry)) n (now (block .entry)) (now (held .exit)) (now (dsm .exit)) ⌝ }
 {
     if held[n] {
         return;
@@ -154,7 +146,7 @@ fn all_held(held: [bool; 16], n: usize) -> bool
 // Done, with an answer, where all counted blocks are held.
 fn finish(collector: CollectDsm, dsm: &[u8]) -> DsmFed
     requires { ⌜ (collector .id ≤ 15) × (length (now dsm) ≡ 208) ⌝ }
-    ensures { λ r. ⌜ _≡_ {A = Fed} (record { state = state (r .collector) (now (dsm .entry)); answer = meaning-dsm (r .answer) }) (finished (state collector (now (dsm .entry)))) ⌝ }
+    ensures { λ r. ⌜ Finished collector (now (dsm .entry)) r ⌝ }
 {
     let id = collector.id;
     let kind = dsm_header::dsm_type(id * 16);
@@ -187,7 +179,7 @@ fn finish(collector: CollectDsm, dsm: &[u8]) -> DsmFed
 // A block of the collector's own DSM.
 fn take(collector: CollectDsm, dsm: &mut [u8], n: usize, block: &[u8]) -> DsmFed
     requires { ⌜ (collector .id ≤ 15) × (n < 16) × (length (now dsm) ≡ 208) × (length (now block) ≡ 13) ⌝ }
-    ensures { λ r. ⌜ _≡_ {A = Fed} (record { state = state (r .collector) (now (dsm .exit)); answer = meaning-dsm (r .answer) }) (taken (state collector (now (dsm .entry))) n (now (block .entry))) ⌝ }
+    ensures { λ r. ⌜ Taken collector (now (dsm .entry)) n (now (block .entry)) r (now (dsm .exit)) ⌝ }
 {
     if collector.done {
         return DsmFed {

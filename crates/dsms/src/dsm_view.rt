@@ -9,7 +9,7 @@ ghost use mathlib.Core.Path.{_≡_};
 ghost use Rattle.layouts.specs.Meaning.{meaning-type};
 ghost use Rattle.dsms.specs.DsmPromises.{state};
 ghost use Rattle.dsms.specs.DsmView.{shownId, shownType, ViewKept, IdKept, TypeKept, DataKept, ViewAnswer};
-ghost use Rattle.dsms.specs.DsmViewInner.{told};
+ghost use Rattle.dsms.specs.inner.DsmView.{told};
 
 pub struct Dsm<'a> {
     pub id: u8,

@@ -12,11 +12,13 @@ use lib.Seq.{drop-drop}
 use lib.Dec.{ltb, eqb}
 use borrow.Author.Tests.{ltb-true, ltb-false, eqb-true, eqb-false}
 use Rattle.layouts.specs.Answer.{Answer, refused, nothing, gives, refusal}
-use Rattle.subframes.specs.Subframe.{isUsed, Page, wordOf, State as Subframes, Fed as SubframesFed, feedChecks, used, offered, feed as feedPage}
+use Rattle.subframes.specs.Subframe.{usedAnswer, Page, wordOf, State as Subframes, Fed as SubframesFed, feedChecks, used, offered, feed as feedPage}
+use Rattle.layouts.specs.InavPage.{isCounted}
 use Rattle.dsms.specs.Dsm.{State as Dsms}
-use Rattle.page_replay.specs.Replay.{Time, later, State, Run, isCounted, subframesIn, dsmsIn, passedOn, skipped, counted, fedPage, fed, pageStep, andThen, onward, replayed, pagesOf, most}
+use Rattle.page_replay.specs.Replay.{Time, later, State, Run, isTaken, subframesIn, dsmsIn, passedOn, skipped, counted, fedPage, fed, pageStep}
+use Rattle.page_replay.specs.Replay.{andThen, onward, replayed, pagesOf, most}
 use Rattle.page_replay.specs.ReplayPromises.{state}
-use Rattle.page_replay.specs.ReplayInner.{ran, AtMostOne, InRange, Room}
+use Rattle.page_replay.specs.inner.Steps.{ran, AtMostOne, InRange, Room}
 use Rattle.page_replay.specs.declared.replay.PageReplay.{PageReplay}
 use Rattle.page_replay.specs.declared.page_step.Stepped.{Stepped}
 use Rattle.subframes.proofs.Pages.{answer-less}
@@ -66,7 +68,9 @@ feed-quiet : (s : Subframes) (p : Page) → (wordOf (p .time) ≡ 14 → ⊥) �
 unfolding feedPage
 feed-quiet s p ne = go (eqb (refusal (feedChecks s p)) 0) _ (offered-quiet _ _ _ (wordOf (p .time)) ne)
   where
-    go : (b : Bool) (x : SubframesFed) → x .answer ≡ nothing → isDone (cond {A = SubframesFed} b x (record { state = s; answer = refused (refusal (feedChecks s p)) }) .answer) ≡ false
+    go :
+        (b : Bool) (x : SubframesFed) → x .answer ≡ nothing
+        → isDone (cond {A = SubframesFed} b x (record { state = s; answer = refused (refusal (feedChecks s p)) }) .answer) ≡ false
     go true x e = rw e
     go false x e = refl
 
@@ -83,7 +87,10 @@ unfolding fed counted
 fed-step s page =
     record {
       one-subframe = subframe-few (feedPage (s .subframes) (fedPage s page) .answer);
-      one-dsm = dsm-few (passedOn (feedPage (s .subframes) (fedPage s page) .answer) (feedPage (s .subframes) (fedPage s page) .state) (s .satellite) (s .dsms) .answer);
+      one-dsm =
+          dsm-few
+          (passedOn (feedPage (s .subframes) (fedPage s page) .answer) (feedPage (s .subframes) (fedPage s page) .state) (s .satellite)
+          (s .dsms) .answer);
       no-subframe = λ ne. none-in (feedPage (s .subframes) (fedPage s page) .answer) (feed-quiet (s .subframes) (fedPage s page) ne);
       no-dsm = λ ne. none-passed (feedPage (s .subframes) (fedPage s page) .answer) _ _ _ (feed-quiet (s .subframes) (fedPage s page) ne);
       next-is = refl;
@@ -107,7 +114,10 @@ unfolding later
 word-later t ne = go (ltb (t .time + 2) 604800) refl
   where
     go : (b : Bool) → ltb (t .time + 2) 604800 ≡ b
-        → wordOf (cond {A = Time} b (record { week = t .week; time = t .time + 2 }) (record { week = cond (eqb (t .week) 4095) 0 (t .week + 1); time = t .time + 2 - 604800 }) .time) ≡ wordOf (t .time) + 1
+        → wordOf
+        (cond {A = Time} b (record { week = t .week; time = t .time + 2 })
+        (record { week = cond (eqb (t .week) 4095) 0 (t .week + 1); time = t .time + 2 - 604800 }) .time)
+        ≡ wordOf (t .time) + 1
     go true e = omega arith
     go false e = omega (arith, ltb-false (t .time + 2) 604800 e)
 
@@ -116,7 +126,10 @@ unfolding later
 word-first t h = go (ltb (t .time + 2) 604800) refl
   where
     go : (b : Bool) → ltb (t .time + 2) 604800 ≡ b
-        → wordOf (cond {A = Time} b (record { week = t .week; time = t .time + 2 }) (record { week = cond (eqb (t .week) 4095) 0 (t .week + 1); time = t .time + 2 - 604800 }) .time) ≡ 0
+        → wordOf
+        (cond {A = Time} b (record { week = t .week; time = t .time + 2 })
+        (record { week = cond (eqb (t .week) 4095) 0 (t .week + 1); time = t .time + 2 - 604800 }) .time)
+        ≡ 0
     go true e = omega arith
     go false e = omega (arith, ltb-false (t .time + 2) 604800 e)
 
@@ -153,13 +166,20 @@ quiet (p ∷ ps) r h =
     let ih = quiet ps (andThen r p) (omega (arith, m .word-next ne)) in
     (ih .0 ∙ m .subframes-same ne, ih .1 ∙ m .dsms-same ne)
 
-at-most : (ps : List (List ℕ)) (r : Run) → word r + length ps ≤ 29 → (length (onward r ps .subframes) ≤ length (r .subframes) + 1) × (length (onward r ps .dsms) ≤ length (r .dsms) + 1)
+at-most :
+    (ps : List (List ℕ)) (r : Run) → word r + length ps ≤ 29
+    → (length (onward r ps .subframes) ≤ length (r .subframes) + 1) × (length (onward r ps .dsms) ≤ length (r .dsms) + 1)
 at-most [] r h = (omega arith, omega arith)
 at-most (p ∷ ps) r h = go (eqb (word r) 14) refl (more r p) (at-most ps (andThen r p)) (quiet ps (andThen r p))
   where
     go : (b : Bool) → eqb (word r) 14 ≡ b → More r (andThen r p)
-        → (word (andThen r p) + length ps ≤ 29 → (length (onward (andThen r p) ps .subframes) ≤ length (andThen r p .subframes) + 1) × (length (onward (andThen r p) ps .dsms) ≤ length (andThen r p .dsms) + 1))
-        → (word (andThen r p) + length ps ≤ 14 → (onward (andThen r p) ps .subframes ≡ andThen r p .subframes) × (onward (andThen r p) ps .dsms ≡ andThen r p .dsms))
+        →
+        (word (andThen r p) + length ps ≤ 29
+        → (length (onward (andThen r p) ps .subframes) ≤ length (andThen r p .subframes) + 1)
+        × (length (onward (andThen r p) ps .dsms) ≤ length (andThen r p .dsms) + 1))
+        →
+        (word (andThen r p) + length ps ≤ 14
+        → (onward (andThen r p) ps .subframes ≡ andThen r p .subframes) × (onward (andThen r p) ps .dsms ≡ andThen r p .dsms))
         → (length (onward (andThen r p) ps .subframes) ≤ length (r .subframes) + 1) × (length (onward (andThen r p) ps .dsms) ≤ length (r .dsms) + 1)
     go true e m ih k =
         let last : word r ≡ 14 = eqb-true (word r) 14 e in
@@ -189,20 +209,26 @@ pub record Sound (s : State) (n : ℕ) : Type 0 where
   pub subframes-few : s .totals .subframes ≤ n
   pub dsms-few : s .totals .dsms ≤ n
 
-later-weeks : (t : Time) → t .week ≤ 4095 → later t .week ≤ 4095
+pub later-weeks : (t : Time) → t .week ≤ 4095 → later t .week ≤ 4095
 unfolding later
 later-weeks t h = go (ltb (t .time + 2) 604800) (eqb (t .week) 4095) refl
   where
-    go : (a b : Bool) → eqb (t .week) 4095 ≡ b → cond {A = Time} a (record { week = t .week; time = t .time + 2 }) (record { week = cond b 0 (t .week + 1); time = t .time + 2 - 604800 }) .week ≤ 4095
+    go :
+        (a b : Bool) → eqb (t .week) 4095 ≡ b
+        → cond {A = Time} a (record { week = t .week; time = t .time + 2 })
+        (record { week = cond b 0 (t .week + 1); time = t .time + 2 - 604800 }) .week ≤ 4095
     go true b e = h
     go false true e = omega arith
     go false false e = let ne = eqb-false (t .week) 4095 e in omega arith
 
-later-week : (t : Time) → t .time ≤ 604799 → later t .time ≤ 604799
+pub later-week : (t : Time) → t .time ≤ 604799 → later t .time ≤ 604799
 unfolding later
 later-week t h = go (ltb (t .time + 2) 604800) refl
   where
-    go : (b : Bool) → ltb (t .time + 2) 604800 ≡ b → cond {A = Time} b (record { week = t .week; time = t .time + 2 }) (record { week = cond (eqb (t .week) 4095) 0 (t .week + 1); time = t .time + 2 - 604800 }) .time ≤ 604799
+    go :
+        (b : Bool) → ltb (t .time + 2) 604800 ≡ b
+        → cond {A = Time} b (record { week = t .week; time = t .time + 2 })
+        (record { week = cond (eqb (t .week) 4095) 0 (t .week + 1); time = t .time + 2 - 604800 }) .time ≤ 604799
     go true e = omega (arith, ltb-true (t .time + 2) 604800 e)
     go false e = omega arith
 
@@ -210,7 +236,7 @@ sound-fed : (s : State) (n : ℕ) (page : List ℕ) → Sound s n → Sound (fed
 unfolding fed counted
 sound-fed s n page h =
     let a : Answer = feedPage (s .subframes) (fedPage s page) .answer in
-    let u : Bool = isUsed (s .subframes) (fedPage s page) in
+    let u : Bool = isTaken (usedAnswer (s .subframes) (fedPage s page)) in
     record {
       some = h .some;
       few = h .few;
@@ -263,7 +289,8 @@ pages-suc zero bytes = refl
 pages-suc (suc n) bytes =
     let far : 30 + 30 * n ≡ 30 * suc n = omega arith in
     let ih : pagesOf (suc n) (drop 30 bytes) ≡ pagesOf n (drop 30 bytes) ++ (take 30 (drop (30 * n) (drop 30 bytes)) ∷ []) = pages-suc n (drop 30 bytes) in
-    ap (λ (l : List (List ℕ)). take 30 bytes ∷ l) (ih ∙ ap (λ (l : List ℕ). pagesOf n (drop 30 bytes) ++ (take 30 l ∷ [])) (drop-drop (30 * n) 30 bytes ∙ ap (λ (k : ℕ). drop k bytes) far))
+    ap (λ (l : List (List ℕ)). take 30 bytes ∷ l)
+    (ih ∙ ap (λ (l : List ℕ). pagesOf n (drop 30 bytes) ++ (take 30 l ∷ [])) (drop-drop (30 * n) 30 bytes ∙ ap (λ (k : ℕ). drop k bytes) far))
 
 pub pages-more : (n : ℕ) (bytes : List ℕ) → pagesOf (n + 1) bytes ≡ pagesOf n bytes ++ (take 30 (drop (30 * n) bytes) ∷ [])
 pages-more n bytes = ap (λ (k : ℕ). pagesOf k bytes) (add-one n) ∙ pages-suc n bytes
@@ -303,7 +330,9 @@ module _ (s : State) (bytes : List ℕ) (k : ℕ) (x : Stepped) (h m d : List �
 
   module _ {page : List ℕ} (g : page ≡ take 30 (drop (30 * k) bytes)) where
     turn-next : andThen (ran x h m d) page ≡ replayed s (pagesOf (k + 1) bytes)
-    turn-next = ap (λ (r : Run). andThen r page) e ∙ ap (andThen (replayed s (pagesOf k bytes))) g ∙ sym (replayed-more s (pagesOf k bytes) (take 30 (drop (30 * k) bytes))) ∙ ap (replayed s) (sym (pages-more k bytes))
+    turn-next =
+        ap (λ (r : Run). andThen r page) e ∙ ap (andThen (replayed s (pagesOf k bytes))) g
+        ∙ sym (replayed-more s (pagesOf k bytes) (take 30 (drop (30 * k) bytes))) ∙ ap (replayed s) (sym (pages-more k bytes))
 
     pub turn-one : k < 15 → AtMostOne (andThen (ran x h m d) page)
     turn-one l = rw turn-next (at-most-one s (pagesOf (k + 1) bytes) (rw (pages-many (k + 1) bytes) (omega arith)))

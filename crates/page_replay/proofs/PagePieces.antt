@@ -8,18 +8,25 @@ use mathlib.Core.List.{List, [], _∷_, _++_, append-nil, append-assoc}
 use mathlib.Core.Bool.{Bool, true, false, cond, not}
 use lib.ListN.{length, take, drop, replicate, length-append, length-drop, take-append-drop}
 use lib.Seq.{length-take-le, take-append-le, drop-append-le}
+use lib.Dec.{eqb}
 use borrow.Author.Tests.{ltb-false}
 use Rattle.layouts.specs.Answer.{Answer, refused, nothing, gives, refusal, copied}
-use Rattle.layouts.specs.Bits.{bit, field}
-use Rattle.layouts.proofs.Answers.{none-fails}
+use Rattle.layouts.specs.Bits.{bit, field, bytesFrom}
+use Rattle.layouts.specs.Gst.{svnGstChecks}
+use Rattle.layouts.specs.InavPage.{isCounted, osnma}
+use Rattle.layouts.specs.Lists.{all}
 use Rattle.layouts.specs.Sizes.{krootBlocks}
-use Rattle.subframes.specs.Subframe.{isUsed, small, State as Subframes, changed, used, offered, answerAt, feed as feedPage, view as viewPage}
-use Rattle.dsms.specs.Dsm.{State as Dsms, begun, stored, counted as counted-blocks, allHeld, whole, finished, taken, feed as feedBlock}
-use Rattle.page_replay.specs.Replay.{Totals, State, new, Run, isCounted, one, passedOn, skipped, counted, fedPage, fed, pageStep, andThen, onward, replayed, pagesOf, wholePages, consumed, most, areFew, newChecks, replayChecks, Outcome, fedHkroot, osnma, later}
-use Rattle.page_replay.specs.Pieces.{OneOfEach, AddsUp, TotalsAddUp, PagesAddUp, followedBy, SplitAnywhere, Call, called, calledAll, consumedBytes, BudgetsLegal, plus, Ready, InPieces, NewIsReady, UsedIsTaken, Example}
+use Rattle.layouts.proofs.Answers.{none-fails}
+use Rattle.subframes.specs.Subframe.{feedChecks, usedAnswer, isUsed, small, State as Subframes, changed, used, offered, answerAt}
+use Rattle.subframes.specs.Subframe.{feed as feedPage, view as viewPage}
+use Rattle.dsms.specs.Dsm.{State as Dsms, begun, stored, counted as counted-blocks, finished, taken, feed as feedBlock}
+use Rattle.page_replay.specs.Replay.{Totals, State, new, Run, isTaken, one, passedOn, skipped, counted, fedPage, fed, pageStep, andThen, onward}
+use Rattle.page_replay.specs.Replay.{replayed, pagesOf, wholePages, consumed, most, areFew, replayChecks, Outcome, replay, fedHkroot, later}
+use Rattle.page_replay.specs.Pieces.{OneOfEach, AddsUp, TotalsAddUp, PagesAddUp, followedBy, SplitAnywhere, Call, answeredTo, called, calledAll}
+use Rattle.page_replay.specs.Pieces.{reported, consumedBytes, plus, Ready, InPieces, CallsGoOn, NewIsReady, TotalsSayUsed, Example}
 use Rattle.page_replay.proofs.PageFold.{at-most-one, Sound, sound-step}
-use Rattle.page_replay.proofs.PageSteps.{new-admitted}
-use Rattle.page_replay.proofs.PageRefusals.{pages-many, all-few, few-each, call-admitted, legal, replay-done}
+use Rattle.page_replay.proofs.PageSteps.{start-admitted}
+use Rattle.page_replay.proofs.PageRefusals.{pages-many, all-few, few-each, call-admitted, other-budget, legal, replay-refused, replay-done}
 use Rattle.subframes.proofs.SubframeSound.{Sound as Collecting, sound-admitted, sound-fed}
 use Rattle.dsms.proofs.DsmSound.{Sound as Gathering, sound-fed as sound-block}
 
@@ -33,11 +40,19 @@ one-or-not false = refl
 
 fed-adds : (s : State) (page : List ℕ) → AddsUp (s .totals) (fed s (fedPage s page)) 1
 unfolding fed counted
-fed-adds s page = record { all-pages = refl; each-page = omega (arith, one-or-not (isUsed (s .subframes) (fedPage s page))); all-subframes = refl; all-dsms = refl }
+fed-adds s page =
+    let u : Bool = isTaken (usedAnswer (s .subframes) (fedPage s page)) in
+    record { all-pages = refl; each-page = omega (arith, one-or-not u); all-subframes = refl; all-dsms = refl }
 
 skipped-adds : (s : State) → AddsUp (s .totals) (skipped s) 1
 unfolding skipped
-skipped-adds s = record { all-pages = refl; each-page = omega arith; all-subframes = sym (add-zero (s .totals .subframes)); all-dsms = sym (add-zero (s .totals .dsms)) }
+skipped-adds s =
+    record {
+      all-pages = refl;
+      each-page = omega arith;
+      all-subframes = sym (add-zero (s .totals .subframes));
+      all-dsms = sym (add-zero (s .totals .dsms));
+    }
 
 step-adds : (s : State) (page : List ℕ) → AddsUp (s .totals) (pageStep s page) 1
 unfolding pageStep
@@ -68,7 +83,13 @@ pub totals-add-up : TotalsAddUp
 unfolding replayed
 totals-add-up s ps =
     let none : AddsUp (s .totals) (record { state = s; subframes = []; dsms = [] }) 0 =
-    record { all-pages = sym (add-zero (s .totals .pages)); each-page = omega arith; all-subframes = sym (add-zero (s .totals .subframes)); all-dsms = sym (add-zero (s .totals .dsms)) } in
+    record {
+      all-pages = sym (add-zero (s .totals .pages));
+      each-page = omega arith;
+      all-subframes = sym (add-zero (s .totals .subframes));
+      all-dsms = sym (add-zero (s .totals .dsms));
+    }
+    in
     rw (zero-add (length ps)) at (onward-adds (s .totals) ps (record { state = s; subframes = []; dsms = [] }) 0 none)
 
 pub pages-add-up : PagesAddUp
@@ -81,7 +102,7 @@ onward-append : (ps qs : List (List ℕ)) (r : Run) → onward r (ps ++ qs) ≡ 
 onward-append [] qs r = refl
 onward-append (p ∷ ps) qs r = onward-append ps qs (andThen r p)
 
-abbrev start : State → Run
+abbrev pub start : State → Run
 start s = record { state = s; subframes = []; dsms = [] }
 
 followed-assoc : (a b c : Run) → followedBy (followedBy a b) c ≡ followedBy a (followedBy b c)
@@ -133,7 +154,7 @@ dsms-step s page h = go (isCounted page)
     go true = dsms-passed (feedPage (s .subframes) (fedPage s page) .answer) (feedPage (s .subframes) (fedPage s page) .state) (s .satellite) (s .dsms) h
     go false = h
 
-good-onward : (ps : List (List ℕ)) (r : Run) (n : ℕ) → Good (r .state) n → Good (onward r ps .state) (n + length ps)
+pub good-onward : (ps : List (List ℕ)) (r : Run) (n : ℕ) → Good (r .state) n → Good (onward r ps .state) (n + length ps)
 unfolding andThen
 good-onward [] r n g = rw (add-zero n) g
 good-onward (p ∷ ps) r n g =
@@ -145,34 +166,76 @@ good-onward (p ∷ ps) r n g =
 
 few-totals : (s : State) (n : ℕ) → Sound s n → n ≤ most → true ≡ areFew (s .totals)
 few-totals s n f l =
-    all-few (s .totals) (omega (arith, f .pages-few)) (omega (arith, f .skipped-few)) (omega (arith, f .used-few)) (omega (arith, f .unused-few)) (omega (arith, f .subframes-few))
-    (omega (arith, f .dsms-few))
+    all-few (s .totals) (omega (arith, f .pages-few)) (omega (arith, f .skipped-few)) (omega (arith, f .used-few)) (omega (arith, f .unused-few))
+    (omega (arith, f .subframes-few)) (omega (arith, f .dsms-few))
 
-admitted-call : (s : State) (n budget : ℕ) → Good s n → n ≤ most → budget ≤ 15 → 0 ≡ refusal (replayChecks s budget)
-admitted-call s n budget g l b =
-    call-admitted s budget (g .dsms .d208)
-    (sound-admitted (s .subframes) (g .collector)) refl (g .dsms .id-low) (few-totals s n (g .sound) l) refl
-    (new-admitted (s .satellite) (s .next .week) (s .next .time) (g .sound .some) (g .sound .few) (g .sound .in-weeks) (g .sound .in-week)) refl b
+-- Of such a record only a budget is refused.
+module _ (s : State) (n budget : ℕ) (g : Good s n) (l : n ≤ most) where
+  in-place : 0 ≡ refusal (svnGstChecks (s .satellite) (s .next .week) (s .next .time))
+  in-place = let f = g .sound in start-admitted (s .satellite) (s .next .week) (s .next .time) (f .some) (f .few) (f .in-weeks) (f .in-week)
+
+  pub admitted-call : budget ≤ 15 → 0 ≡ refusal (replayChecks s budget)
+  admitted-call b =
+      call-admitted s budget (g .dsms .d208)
+      (sound-admitted (s .subframes) (g .collector)) refl (g .dsms .id-low) (few-totals s n (g .sound) l) refl in-place refl b
+
+  pub high-budget-7 : 15 < budget → 7 ≡ refusal (replayChecks s budget)
+  high-budget-7 b =
+      other-budget s budget (g .dsms .d208)
+      (sound-admitted (s .subframes) (g .collector)) refl (g .dsms .id-low) (few-totals s n (g .sound) l) refl in-place refl b
+
+-- A call: the pages that it consumed, which are none where it is refused.
+abbrev pub consumedPages : State → Call → List (List ℕ)
+consumedPages s c = pagesOf (reported (answeredTo s c .answer)) (c .bytes)
+
+module _ (s : State) (c : Call) where
+  abbrev ps : List (List ℕ)
+  ps = consumed (c .bytes) (c .budget)
+
+  abbrev q : ℕ
+  q = refusal (replayChecks s (c .budget))
+
+  abbrev either : Bool → Outcome
+  either b =
+      cond b
+      (record { state = replayed s ps .state; answer = gives (length ps ∷ []); subframes = replayed s ps .subframes; dsms = replayed s ps .dsms })
+      (record { state = s; answer = refused q; subframes = []; dsms = [] })
+
+  few-consumed : (b : Bool) → 30 * reported (either b .answer) ≤ length (c .bytes)
+  few-consumed true =
+      let many : length ps ≡ min (c .budget) (wholePages (c .bytes)) = pages-many (min (c .budget) (wholePages (c .bytes))) (c .bytes) in omega arith
+  few-consumed false = omega arith
+
+  pub consumed-fit : 30 * reported (answeredTo s c .answer) ≤ length (c .bytes)
+  unfolding replay
+  consumed-fit = few-consumed (eqb q 0)
+
+  consumes-by : (b : Bool) → record { state = either b .state; subframes = either b .subframes; dsms = either b .dsms }
+      ≡ replayed s (pagesOf (reported (either b .answer)) (c .bytes))
+  unfolding replayed pagesOf
+  consumes-by true =
+      ap (λ (k : ℕ). replayed s (pagesOf k (c .bytes))) (sym (pages-many (min (c .budget) (wholePages (c .bytes))) (c .bytes)))
+  consumes-by false = refl
+
+  pub call-consumes :
+      record { state = answeredTo s c .state; subframes = answeredTo s c .subframes; dsms = answeredTo s c .dsms } ≡ replayed s (consumedPages s c)
+  unfolding replay
+  call-consumes = consumes-by (eqb q 0)
+
+called-is : (r : Run) (c : Call) → called r c ≡ onward r (consumedPages (r .state) c)
+unfolding replayed
+called-is r c = ap (followedBy r) (call-consumes (r .state) c) ∙ sym (onward-start (consumedPages (r .state) c) r)
 
 -- Calls one after the other.
-abbrev allConsumed : List Call → List (List ℕ)
-allConsumed [] = []
-allConsumed (c ∷ cs) = consumed (c .bytes) (c .budget) ++ allConsumed cs
+abbrev allConsumed : State → List Call → List (List ℕ)
+allConsumed s [] = []
+allConsumed s (c ∷ cs) = consumedPages s c ++ allConsumed (answeredTo s c .state) cs
 
-called-is : (r : Run) (c : Call) (n : ℕ) → Good (r .state) n → n ≤ most → c .budget ≤ 15 → called r c ≡ onward r (consumed (c .bytes) (c .budget))
-unfolding replayed
-called-is r c n g l b =
-    let e = replay-done (r .state) (c .bytes) (c .budget) (admitted-call (r .state) n (c .budget) g l b) refl refl refl in
-    ap (λ (o : Outcome). followedBy r (record { state = o .state; subframes = o .subframes; dsms = o .dsms })) (sym e) ∙ sym (onward-start (consumed (c .bytes) (c .budget)) r)
-
-calls-are : (cs : List Call) (r : Run) (n : ℕ) → Good (r .state) n → n + length (allConsumed cs) ≤ most → BudgetsLegal cs → calledAll r cs ≡ onward r (allConsumed cs)
-calls-are [] r n g l b = refl
-calls-are (c ∷ cs) r n g l b =
-    let ps : List (List ℕ) = consumed (c .bytes) (c .budget) in
-    let many : length (ps ++ allConsumed cs) ≡ length ps + length (allConsumed cs) = length-append ps (allConsumed cs) in
-    ap (λ (x : Run). calledAll x cs) (called-is r c n g (omega arith) (b .0))
-    ∙ calls-are cs (onward r ps) (n + length ps) (good-onward ps r n g) (omega arith) (b .1)
-    ∙ sym (onward-append ps (allConsumed cs) r)
+calls-are : (cs : List Call) (r : Run) → calledAll r cs ≡ onward r (allConsumed (r .state) cs)
+calls-are [] r = refl
+calls-are (c ∷ cs) r =
+    let rest : List (List ℕ) = allConsumed (answeredTo (r .state) c .state) cs in
+    calls-are cs (called r c) ∙ ap (λ (x : Run). onward x rest) (called-is r c) ∙ sym (onward-append (consumedPages (r .state) c) rest r)
 
 -- The pages of bytes that are put together.
 pages-join : (k m : ℕ) (a b : List ℕ) → length a ≡ 30 * k → pagesOf (k + m) (a ++ b) ≡ pagesOf k a ++ pagesOf m b
@@ -191,20 +254,31 @@ pages-taken k bytes h =
     ap (λ (j : ℕ). pagesOf j bytes) (sym (add-zero k)) ∙ ap (pagesOf (k + 0)) (sym (take-append-drop (30 * k) bytes))
     ∙ pages-join k 0 (take (30 * k) bytes) (drop (30 * k) bytes) (length-take-le (30 * k) bytes h) ∙ append-nil (pagesOf k (take (30 * k) bytes))
 
-file-pages : (cs : List Call) (tail : List ℕ) → length tail < 30 → allConsumed cs ≡ pagesOf (wholePages (consumedBytes cs ++ tail)) (consumedBytes cs ++ tail)
+abbrev allPages : List ℕ → List (List ℕ)
+allPages bytes = pagesOf (wholePages bytes) bytes
+
+pages-first : (k : ℕ) (bytes rest : List ℕ) → 30 * k ≤ length bytes → pagesOf k bytes ++ allPages rest ≡ allPages (take (30 * k) bytes ++ rest)
+pages-first k bytes rest h =
+    let first : List ℕ = take (30 * k) bytes in
+    let long : length first ≡ 30 * k = length-take-le (30 * k) bytes h in
+    let many : wholePages (first ++ rest) ≡ k + wholePages rest = ap (λ (j : ℕ). j / 30) (length-append first rest) ∙ rw long (omega arith) in
+    ap (λ (l : List (List ℕ)). l ++ allPages rest) (pages-taken k bytes h)
+    ∙ sym (pages-join k (wholePages rest) first rest long)
+    ∙ sym (ap (λ (j : ℕ). pagesOf j (first ++ rest)) many)
+
+file-pages : (cs : List Call) (s : State) (tail : List ℕ) → length tail < 30 → allConsumed s cs ≡ allPages (consumedBytes s cs ++ tail)
 unfolding pagesOf
-file-pages [] tail l = let none : length tail / 30 ≡ 0 = omega arith in rw none
-file-pages (c ∷ cs) tail l =
-    let k : ℕ = min (c .budget) (wholePages (c .bytes)) in
-    let rest : List ℕ = consumedBytes cs ++ tail in
-    let many : length (pagesOf k (c .bytes)) ≡ k = pages-many k (c .bytes) in
-    let fits : 30 * k ≤ length (c .bytes) = omega arith in
-    let long : length (take (30 * k) (c .bytes)) ≡ 30 * k = length-take-le (30 * k) (c .bytes) fits in
-    let pages : wholePages (take (30 * k) (c .bytes) ++ rest) ≡ k + wholePages rest = ap (λ (j : ℕ). j / 30) (length-append (take (30 * k) (c .bytes)) rest) ∙ rw long (omega arith) in
-    let whole : pagesOf (wholePages (take (30 * k) (c .bytes) ++ rest)) (take (30 * k) (c .bytes) ++ rest) ≡ pagesOf k (c .bytes) ++ allConsumed cs =
-    ap (λ (j : ℕ). pagesOf j (take (30 * k) (c .bytes) ++ rest)) pages ∙ pages-join k (wholePages rest) (take (30 * k) (c .bytes)) rest long
-    ∙ ap (λ (l : List (List ℕ)). l ++ pagesOf (wholePages rest) rest) (sym (pages-taken k (c .bytes) fits)) ∙ ap (λ (l : List (List ℕ)). pagesOf k (c .bytes) ++ l) (sym (file-pages cs tail l)) in
-    sym (ap (λ (x : List ℕ). pagesOf (wholePages x) x) (append-assoc (take (30 * length (pagesOf k (c .bytes))) (c .bytes)) (consumedBytes cs) tail ∙ ap (λ (j : ℕ). take (30 * j) (c .bytes) ++ rest) many) ∙ whole)
+file-pages [] s tail l = let none : length tail / 30 ≡ 0 = omega arith in rw none
+file-pages (c ∷ cs) s tail l =
+    let k : ℕ = reported (answeredTo s c .answer) in
+    let later : State = answeredTo s c .state in
+    ap (λ (x : List (List ℕ)). pagesOf k (c .bytes) ++ x) (file-pages cs later tail l)
+    ∙ pages-first k (c .bytes) (consumedBytes later cs ++ tail) (consumed-fit s c)
+    ∙ ap allPages (sym (append-assoc (take (30 * k) (c .bytes)) (consumedBytes later cs) tail))
+
+pub in-pieces : InPieces
+unfolding replayed
+in-pieces s file tail cs e l = calls-are cs (start s) ∙ ap (onward (start s)) (file-pages cs s tail l ∙ ap allPages e)
 
 -- A legal record with room.
 good-first : (s : State) (n : ℕ) → Ready s n → (n ≤ most) × Good s (most - n)
@@ -231,50 +305,96 @@ good-first s n r =
       },
     )
 
-pub in-pieces : InPieces
-unfolding replayed
-in-pieces s file tail cs r b e l =
-    let same : allConsumed cs ≡ pagesOf (wholePages file) file = file-pages cs tail l ∙ ap (λ (x : List ℕ). pagesOf (wholePages x) x) e in
-    let many : length (allConsumed cs) ≡ wholePages file = ap (λ (x : List (List ℕ)). length x) same ∙ pages-many (wholePages file) file in
-    let g = good-first s (wholePages file) r in
-    calls-are cs (start s) (most - wholePages file) (g .1) (omega (arith, g .0)) b ∙ ap (onward (start s)) same
+good-ready : (s : State) (m n : ℕ) → Good s m → m + n ≤ most → Ready s n
+good-ready s m n g l =
+    let f = g .sound in
+    record {
+      not-refused = sym (admitted-call s m 0 g (omega arith) (omega arith));
+      room =
+          sym
+          (all-few (plus (s .totals) n) (omega (arith, f .pages-few)) (omega (arith, f .skipped-few)) (omega (arith, f .used-few))
+          (omega (arith, f .unused-few)) (omega (arith, f .subframes-few)) (omega (arith, f .dsms-few)));
+    }
 
-zeros-small : small (replicate 36 0) ≡ true
+module _ (s : State) (n : ℕ) (c : Call) (r : Ready s n) where
+  abbrev o : Outcome
+  o = answeredTo s c
+
+  few : n ≤ most
+  few = good-first s n r .0
+
+  good : Good s (most - n)
+  good = good-first s n r .1
+
+  legal-budget : c .budget ≤ 15 → o .answer ≡ gives (min (c .budget) (wholePages (c .bytes)) ∷ [])
+  legal-budget b =
+      ap (λ (x : Outcome). x .answer) (sym (replay-done s (c .bytes) (c .budget) (admitted-call s (most - n) (c .budget) good (omega arith) b) refl refl refl))
+
+  high-budget : 15 < c .budget → o ≡ record { state = s; answer = refused 7; subframes = []; dsms = [] }
+  high-budget b =
+      sym (replay-refused s (c .bytes) (c .budget) (high-budget-7 s (most - n) (c .budget) good (omega arith) b) (λ z. absurd (omega (arith, z))))
+
+  ready-still : reported (o .answer) ≤ n → Ready (o .state) (n - reported (o .answer))
+  unfolding replayed
+  ready-still l =
+      let k : ℕ = reported (o .answer) in
+      let qs : List (List ℕ) = consumedPages s c in
+      let many : length qs ≡ k = pages-many k (c .bytes) in
+      let g : Good (replayed s qs .state) (most - n + length qs) = good-onward qs (start s) (most - n) good in
+      let same : replayed s qs .state ≡ o .state = sym (ap (λ (x : Run). x .state) (call-consumes s c)) in
+      good-ready (o .state) (most - n + k) (n - k) (rw (many, same) at g) (omega (arith, few))
+
+pub calls-go-on : CallsGoOn
+calls-go-on s n c r = record { legal-budget = legal-budget s n c r; high-budget = high-budget s n c r; ready-still = ready-still s n c r }
+
+pub zeros-small : small (replicate 36 0) ≡ true
 unfolding small
 zeros-small = refl
 
 pub new-is-ready : NewIsReady
 new-is-ready satellite week time n hkroot mack memory e lh lm ld l =
-    let f = none-fails (newChecks satellite week time) tt e in
-    record {
-      not-refused =
-          sym
-          (admitted-call (new satellite week time hkroot mack memory) 0 0
-          (record {
-            sound =
-                record {
-                  some = ltb-false satellite 1 (f .0);
-                  few = ltb-false 36 satellite (f .1 .0);
-                  in-weeks = ltb-false 4095 week (f .1 .1 .0);
-                  in-week = ltb-false 604799 time (f .1 .1 .1 .0);
-                  pages-few = omega arith;
-                  skipped-few = omega arith;
-                  used-few = omega arith;
-                  unused-few = omega arith;
-                  subframes-few = omega arith;
-                  dsms-few = omega arith;
-                };
-            collector = record { h540 = lh; m2160 = lm; week-fits = omega arith; subframe-fits = omega arith; all-small = zeros-small };
-            dsms = record { d208 = ld; id-low = omega arith };
-          }) (omega arith) (omega arith));
-      room =
-          sym (all-few (plus (new satellite week time hkroot mack memory .totals) n) (omega arith) (omega arith) (omega arith) (omega arith) (omega arith) (omega arith));
-    }
+    let f = none-fails (svnGstChecks satellite week time) tt e in
+    good-ready (new satellite week time hkroot mack memory) 0 n
+    (record {
+      sound =
+          record {
+            some = ltb-false satellite 1 (f .0);
+            few = ltb-false 36 satellite (f .1 .0);
+            in-weeks = ltb-false 4095 week (f .1 .1 .0);
+            in-week = ltb-false 604799 time (f .1 .1 .1 .0);
+            pages-few = omega arith;
+            skipped-few = omega arith;
+            used-few = omega arith;
+            unused-few = omega arith;
+            subframes-few = omega arith;
+            dsms-few = omega arith;
+          };
+      collector = record { h540 = lh; m2160 = lm; week-fits = omega arith; subframe-fits = omega arith; all-small = zeros-small };
+      dsms = record { d208 = ld; id-low = omega arith };
+    })
+    (omega arith)
 
-pub used-is-taken : UsedIsTaken
-unfolding feedPage offered isUsed
-used-is-taken s p e = rw e
+-- what is asked of a page that is admitted is not refused
+pub totals-say-used : TotalsSayUsed
+unfolding usedAnswer refusal
+totals-say-used s p e =
+    let f = none-fails (feedChecks s p) tt e in
+    rw (
+      f .1 .1 .1 .0,
+      f .1 .1 .1 .1 .0,
+      f .1 .1 .1 .1 .1 .0,
+      f .1 .1 .1 .1 .1 .1 .0,
+      f .1 .1 .1 .1 .1 .1 .1 .0,
+      f .1 .1 .1 .1 .1 .1 .1 .1 .0,
+      f .1 .1 .1 .1 .1 .1 .1 .1 .1 .0,
+    ) (yes-or-no (isUsed s p))
+  where
+    yes-or-no : (b : Bool) → isTaken (cond b (gives []) nothing) ≡ b
+    yes-or-no true = refl
+    yes-or-no false = refl
 
 pub example : Example
-unfolding replayed andThen pageStep isCounted skipped fed counted isUsed later osnma fedHkroot bit field refusal small changed used offered answerAt feedPage viewPage copied begun stored counted-blocks allHeld finished taken feedBlock krootBlocks
+unfolding
+    replayed andThen pageStep isCounted skipped fed counted usedAnswer isUsed later osnma fedHkroot bit field refusal small changed used offered answerAt
+    feedPage viewPage copied begun stored counted-blocks all finished taken feedBlock krootBlocks bytesFrom
 example = (refl, refl, refl)

@@ -3,18 +3,19 @@
 use Prim.Native.Nat.{ℕ, zero, suc, _/_, _^_, _≤_, _<_, min}
 use native.Mathlib.Omega.{arith}
 use mathlib.Core.Path.{_≡_, refl, sym, ap, _∙_}
-use mathlib.Core.List.{List, [], _∷_}
+use mathlib.Core.List.{List, [], _∷_, _++_}
 use mathlib.Core.Bool.{Bool, true, false, not, _&&_}
 use lib.ListN.{length, drop}
 use lib.Dec.{leb, ltb}
 use borrow.Author.Tests.{leb-true, le-leb, lt-leb, le-ltb, lt-ltb, eq-eqb, ne-eqb, eqb-true, ltb-false, not-false}
 use Rattle.layouts.specs.Answer.{refused, gives, Check, _when_, refusal}
+use Rattle.layouts.specs.Gst.{svnGstChecks}
 use Rattle.layouts.proofs.Answers.{stopped, went-on, none-fails}
-use Rattle.page_replay.specs.Replay.{Totals, State, Run, newChecks, replayChecks, skipped, areFew, most, Outcome, replay, replayed, pagesOf, consumed}
+use Rattle.page_replay.specs.Replay.{Totals, State, Run, under, replayChecks, areFew, most, Outcome, replay, replayed, pagesOf, consumed}
 use Rattle.subframes.specs.Subframe.{recordChecks}
 use Rattle.subframes.proofs.SubframeSound.{Sound as Collecting, passed-sound}
 use Rattle.page_replay.specs.ReplayPromises.{state}
-use Rattle.page_replay.specs.ReplayInner.{InRange, Room}
+use Rattle.page_replay.specs.inner.Steps.{InRange, Room}
 use Rattle.page_replay.specs.declared.replay.PageReplay.{PageReplay}
 
 -- The totals.
@@ -41,31 +42,50 @@ module _ (t : Totals) where
         module _ (d : t .unused ≤ most) where
           pub many-subframes : most < t .subframes → false ≡ areFew t
           unfolding areFew
-          many-subframes h = rw (le-leb (t .pages) most a, le-leb (t .skipped) most b, le-leb (t .used) most c, le-leb (t .unused) most d, lt-leb (t .subframes) most h)
+          many-subframes h =
+              rw (
+                le-leb (t .pages) most a,
+                le-leb (t .skipped) most b,
+                le-leb (t .used) most c,
+                le-leb (t .unused) most d,
+                lt-leb (t .subframes) most h,
+              )
 
           module _ (e : t .subframes ≤ most) where
             pub many-dsms : most < t .dsms → false ≡ areFew t
             unfolding areFew
-            many-dsms h = rw (le-leb (t .pages) most a, le-leb (t .skipped) most b, le-leb (t .used) most c, le-leb (t .unused) most d, le-leb (t .subframes) most e, lt-leb (t .dsms) most h)
+            many-dsms h =
+                rw (
+                  le-leb (t .pages) most a,
+                  le-leb (t .skipped) most b,
+                  le-leb (t .used) most c,
+                  le-leb (t .unused) most d,
+                  le-leb (t .subframes) most e,
+                  lt-leb (t .dsms) most h,
+                )
 
             pub all-few : t .dsms ≤ most → true ≡ areFew t
             unfolding areFew
-            all-few h = rw (le-leb (t .pages) most a, le-leb (t .skipped) most b, le-leb (t .used) most c, le-leb (t .unused) most d, le-leb (t .subframes) most e, le-leb (t .dsms) most h)
+            all-few h =
+                rw (
+                  le-leb (t .pages) most a,
+                  le-leb (t .skipped) most b,
+                  le-leb (t .used) most c,
+                  le-leb (t .unused) most d,
+                  le-leb (t .subframes) most e,
+                  le-leb (t .dsms) most h,
+                )
 
 -- The refusals of a call: the subframe collector's bytes and record, then what is left.
 abbrev placeRows : State → ℕ → List Check
-placeRows s budget =
-    12 when ltb (s .satellite) 1 ∷
-    12 when ltb 36 (s .satellite) ∷
-    12 when ltb 4095 (s .next .week) ∷
-    12 when ltb 604799 (s .next .time) ∷
-    7 when ltb 15 budget ∷
-    []
+placeRows s budget = under 12 (svnGstChecks (s .satellite) (s .next .week) (s .next .time)) ++ (7 when ltb 15 budget ∷ [])
 
 abbrev othersOf : State → ℕ → List Check
 othersOf s budget = 12 when ltb 15 (s .dsms .id) ∷ 12 when not (areFew (s .totals)) ∷ placeRows s budget
 
-twelve : (a b c d : Bool) (cs : List Check) → (refusal (2 when a ∷ 2 when b ∷ 3 when c ∷ 4 when d ∷ []) ≡ 0 → ⊥) → 12 ≡ refusal (12 when a ∷ 12 when b ∷ 12 when c ∷ 12 when d ∷ cs)
+twelve :
+    (a b c d : Bool) (cs : List Check) → (refusal (2 when a ∷ 2 when b ∷ 3 when c ∷ 4 when d ∷ []) ≡ 0 → ⊥)
+    → 12 ≡ refusal (12 when a ∷ 12 when b ∷ 12 when c ∷ 12 when d ∷ cs)
 unfolding refusal
 twelve true b c d cs ne = refl
 twelve false true c d cs ne = refl
@@ -73,7 +93,9 @@ twelve false false true d cs ne = refl
 twelve false false false true cs ne = refl
 twelve false false false false cs ne = absurd (ne refl)
 
-no-twelve : (a b c d : Bool) (cs : List Check) → refusal (2 when a ∷ 2 when b ∷ 3 when c ∷ 4 when d ∷ []) ≡ 0 → refusal (12 when a ∷ 12 when b ∷ 12 when c ∷ 12 when d ∷ cs) ≡ refusal cs
+no-twelve :
+    (a b c d : Bool) (cs : List Check) → refusal (2 when a ∷ 2 when b ∷ 3 when c ∷ 4 when d ∷ []) ≡ 0
+    → refusal (12 when a ∷ 12 when b ∷ 12 when c ∷ 12 when d ∷ cs) ≡ refusal cs
 unfolding refusal
 no-twelve true b c d cs e = absurd (omega arith)
 no-twelve false true c d cs e = absurd (omega arith)
@@ -105,16 +127,24 @@ module _ (s : State) (budget : ℕ) where
         unfolding refusal
         other-totals h = behind (rw (le-ltb 15 (s .dsms .id) i, ← f, h))
 
-        module _ (h : not b ≡ false) {p : ℕ} (g : p ≡ refusal (newChecks (s .satellite) (s .next .week) (s .next .time))) where
+        module _ (h : not b ≡ false) {p : ℕ} (g : p ≡ refusal (svnGstChecks (s .satellite) (s .next .week) (s .next .time))) where
           beyond : {r : ℕ} → r ≡ refusal (placeRows s budget) → r ≡ refusal (replayChecks s budget)
           unfolding refusal
           beyond y = behind (rw (le-ltb 15 (s .dsms .id) i, ← f, h) y)
 
           pub other-place : (p ≡ 0 → ⊥) → 12 ≡ refusal (replayChecks s budget)
-          other-place ne = beyond (twelve (ltb (s .satellite) 1) (ltb 36 (s .satellite)) (ltb 4095 (s .next .week)) (ltb 604799 (s .next .time)) (7 when ltb 15 budget ∷ []) (λ y. ne (g ∙ y)))
+          other-place ne =
+              beyond
+              (twelve (ltb (s .satellite) 1) (ltb 36 (s .satellite)) (ltb 4095 (s .next .week)) (ltb 604799 (s .next .time))
+              (7 when ltb 15 budget ∷ []) (λ y. ne (g ∙ y)))
 
           last : {r : ℕ} → p ≡ 0 → r ≡ refusal (7 when ltb 15 budget ∷ []) → r ≡ refusal (replayChecks s budget)
-          last y x = beyond (x ∙ sym (no-twelve (ltb (s .satellite) 1) (ltb 36 (s .satellite)) (ltb 4095 (s .next .week)) (ltb 604799 (s .next .time)) (7 when ltb 15 budget ∷ []) (sym g ∙ y)))
+          last y x =
+              beyond
+              (x
+              ∙ sym
+              (no-twelve (ltb (s .satellite) 1) (ltb 36 (s .satellite)) (ltb 4095 (s .next .week)) (ltb 604799 (s .next .time))
+              (7 when ltb 15 budget ∷ []) (sym g ∙ y)))
 
           pub other-budget : p ≡ 0 → 15 < budget → 7 ≡ refusal (replayChecks s budget)
           unfolding refusal
@@ -125,15 +155,27 @@ module _ (s : State) (budget : ℕ) where
           call-admitted y k = last y (rw (le-ltb 15 budget k))
 
 -- what is known of a call that is not refused
-pub few-each : (t : Totals) → areFew t ≡ true → (t .pages ≤ most) × (t .skipped ≤ most) × (t .used ≤ most) × (t .unused ≤ most) × (t .subframes ≤ most) × (t .dsms ≤ most)
+pub few-each :
+    (t : Totals) → areFew t ≡ true
+    → (t .pages ≤ most) × (t .skipped ≤ most) × (t .used ≤ most) × (t .unused ≤ most) × (t .subframes ≤ most) × (t .dsms ≤ most)
 unfolding areFew
-few-each t e = go (leb (t .pages) most) (leb (t .skipped) most) (leb (t .used) most) (leb (t .unused) most) (leb (t .subframes) most) (leb (t .dsms) most) refl refl refl refl refl refl e
+few-each t e =
+    go (leb (t .pages) most) (leb (t .skipped) most) (leb (t .used) most) (leb (t .unused) most) (leb (t .subframes) most) (leb (t .dsms) most) refl
+    refl refl refl refl refl e
   where
-    go : (a b c d e f : Bool) → leb (t .pages) most ≡ a → leb (t .skipped) most ≡ b → leb (t .used) most ≡ c → leb (t .unused) most ≡ d → leb (t .subframes) most ≡ e → leb (t .dsms) most ≡ f
+    go :
+        (a b c d e f : Bool) → leb (t .pages) most ≡ a → leb (t .skipped) most ≡ b → leb (t .used) most ≡ c → leb (t .unused) most ≡ d
+        → leb (t .subframes) most ≡ e → leb (t .dsms) most ≡ f
         → (a && b && c && d && e && f) ≡ true
         → (t .pages ≤ most) × (t .skipped ≤ most) × (t .used ≤ most) × (t .unused ≤ most) × (t .subframes ≤ most) × (t .dsms ≤ most)
-    go true true true true true true pa pb pc pd pe pf h =
-        (leb-true (t .pages) most pa, leb-true (t .skipped) most pb, leb-true (t .used) most pc, leb-true (t .unused) most pd, leb-true (t .subframes) most pe, leb-true (t .dsms) most pf)
+    go true true true true true true pa pb pc pd pe pf h = (
+      leb-true (t .pages) most pa,
+      leb-true (t .skipped) most pb,
+      leb-true (t .used) most pc,
+      leb-true (t .unused) most pd,
+      leb-true (t .subframes) most pe,
+      leb-true (t .dsms) most pf,
+    )
     go true true true true true false pa pb pc pd pe pf h = let z : _≡_ {A = ℕ} 0 1 = cc in absurd (omega arith)
     go true true true true false f pa pb pc pd pe pf h = let z : _≡_ {A = ℕ} 0 1 = cc in absurd (omega arith)
     go true true true false e f pa pb pc pd pe pf h = let z : _≡_ {A = ℕ} 0 1 = cc in absurd (omega arith)
@@ -192,7 +234,8 @@ module _ (s : State) (bytes : List ℕ) (budget : ℕ) {q : ℕ} (e : q ≡ refu
   unfolding replay
   replay-done {x} {n} z h g =
       let whole : replay s bytes budget ≡ ran-to (consumed bytes budget) = rw (← e, z) in
-      ap (λ (y : Run). answering y n) g ∙ ap (answering (replayed s (pagesOf n bytes))) (sym (pages-many n bytes)) ∙ ap (λ (k : ℕ). ran-to (pagesOf k bytes)) h ∙ sym whole
+      ap (λ (y : Run). answering y n) g ∙ ap (answering (replayed s (pagesOf n bytes))) (sym (pages-many n bytes))
+      ∙ ap (λ (k : ℕ). ran-to (pagesOf k bytes)) h ∙ sym whole
     where
       answering : Run → ℕ → Outcome
       answering y k = record { state = y .state; answer = gives (k ∷ []); subframes = y .subframes; dsms = y .dsms }

@@ -4,6 +4,7 @@ use mathlib.Core.Path.{_≡_, refl, sym, ap, _∙_}
 use mathlib.Core.List.{List, [], _∷_}
 use Prim.Native.Nat.{ℕ}
 use Rattle.layouts.specs.Answer.{Answer, refused, nothing, gives}
+use Rattle.page_replay.specs.Agreed.{Agreed}
 use Rattle.page_replay.specs.Replay.{State, Time, Dsm, Begun, Outcome}
 use Rattle.page_replay.specs.ReplayPromises.{meaning-begun, meaning-replay, meaning-subframes, meaning-dsms, outcome, BeginReplay, ReplayPages}
 use Rattle.page_replay.specs.declared.replay.PageReplay.{PageReplay}
@@ -19,43 +20,43 @@ use Rattle.page_replay.specs.declared.replay.ReplayAnswer.the-variants.{
 use Rattle.page_replay.specs.declared.replay.Replayed.{Replayed}
 
 -- `back` undoes each `meaning`
-abbrev back-begun : Answer → BegunAnswer
+abbrev pub back-begun : Answer → BegunAnswer
 back-begun (refused n) = Refused n
 back-begun nothing = Ready
 back-begun (gives l) = Ready
 
-undo-begun : (r : BegunAnswer) → back-begun (meaning-begun r) ≡ r
+pub undo-begun : (r : BegunAnswer) → back-begun (meaning-begun r) ≡ r
 undo-begun (Refused n) = refl
 undo-begun Ready = refl
 
-abbrev back-answer : Answer → ReplayAnswer
+abbrev pub back-answer : Answer → ReplayAnswer
 back-answer (refused n) = ReplayRefused n
 back-answer nothing = Consumed 0
 back-answer (gives []) = Consumed 0
 back-answer (gives (n ∷ l)) = Consumed n
 
-undo-answer : (r : ReplayAnswer) → back-answer (meaning-replay r) ≡ r
+pub undo-answer : (r : ReplayAnswer) → back-answer (meaning-replay r) ≡ r
 undo-answer (ReplayRefused n) = refl
 undo-answer (Consumed n) = refl
 
-abbrev back-subframes : List Time → SubframeDone
+abbrev pub back-subframes : List Time → SubframeDone
 back-subframes [] = None
 back-subframes (t ∷ l) = Subframe (t .week) (t .time)
 
-undo-subframes : (r : SubframeDone) → back-subframes (meaning-subframes r) ≡ r
+pub undo-subframes : (r : SubframeDone) → back-subframes (meaning-subframes r) ≡ r
 undo-subframes None = refl
 undo-subframes (Subframe w t) = refl
 
-abbrev back-dsms : List Dsm → DsmDone
+abbrev pub back-dsms : List Dsm → DsmDone
 back-dsms [] = NoDsm
 back-dsms (d ∷ l) = DsmIs (d .id) (d .bytes)
 
-undo-dsms : (r : DsmDone) → back-dsms (meaning-dsms r) ≡ r
+pub undo-dsms : (r : DsmDone) → back-dsms (meaning-dsms r) ≡ r
 undo-dsms NoDsm = refl
 undo-dsms (DsmIs i n) = refl
 
 -- the record is its state without the lent bytes
-abbrev back-state : State → PageReplay
+abbrev pub back-state : State → PageReplay
 back-state s =
     record {
       satellite = s .satellite;
@@ -80,17 +81,29 @@ begin-replay satellite week time r s p q = whole r ∙ ap back-new (p ∙ sym q)
     whole : (f : NewReplay) → _≡_ {A = NewReplay} f (record { replay = f .replay; answer = back-begun (meaning-begun (f .answer)) })
     whole f = rw (undo-begun (f .answer))
 
-abbrev back-outcome : Outcome → Replayed
+abbrev pub back-outcome : Outcome → Replayed
 back-outcome o =
     record { replay = back-state (o .state); answer = back-answer (o .answer); subframe = back-subframes (o .subframes); dsm = back-dsms (o .dsms) }
 
 pub replay-pages : (c : PageReplay) (h m d pages : List ℕ) (budget : ℕ) (r s : Replayed) (x y z x′ y′ z′ : List ℕ)
     → ReplayPages c h m d pages budget r x y z → ReplayPages c h m d pages budget s x′ y′ z′ → (r ≡ s) × (x ≡ x′) × (y ≡ y′) × (z ≡ z′)
 replay-pages c h m d pages budget r s x y z x′ y′ z′ p q =
-    let e : outcome r x y z ≡ outcome s x′ y′ z′ = p ∙ sym q in
-    (whole r ∙ ap back-outcome e ∙ sym (whole s), ap (λ (o : Outcome). o .state .subframes .hkroot) e, ap (λ (o : Outcome). o .state .subframes .mack) e, ap (λ (o : Outcome). o .state .dsms .memory) e)
+    let e : outcome r x y z ≡ outcome s x′ y′ z′ = p ∙ sym q in (
+      whole r ∙ ap back-outcome e ∙ sym (whole s),
+      ap (λ (o : Outcome). o .state .subframes .hkroot) e,
+      ap (λ (o : Outcome). o .state .subframes .mack) e,
+      ap (λ (o : Outcome). o .state .dsms .memory) e,
+    )
   where
     whole : (f : Replayed)
         → _≡_ {A = Replayed} f
-        (record { replay = f .replay; answer = back-answer (meaning-replay (f .answer)); subframe = back-subframes (meaning-subframes (f .subframe)); dsm = back-dsms (meaning-dsms (f .dsm)) })
+        (record {
+          replay = f .replay;
+          answer = back-answer (meaning-replay (f .answer));
+          subframe = back-subframes (meaning-subframes (f .subframe));
+          dsm = back-dsms (meaning-dsms (f .dsm));
+        })
     whole f = rw (undo-answer (f .answer), undo-subframes (f .subframe), undo-dsms (f .dsm))
+
+pub agreed : Agreed
+agreed = record { new = begin-replay; replay = replay-pages }

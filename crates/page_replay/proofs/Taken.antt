@@ -1,21 +1,20 @@
--- What the page replay reads off the subframe collector: the number that its question refuses with, and whether it takes a page.
+-- What the page replay reads off the subframe collector: the number that its question refuses with.
 -- Assumes nothing.
-use Prim.Native.Nat.{ℕ, _-_, _*_, _<_}
+use Prim.Native.Nat.{ℕ, _-_, _*_}
 use native.Mathlib.Omega.{arith}
-use mathlib.Core.Path.{_≡_, refl, sym, ap, _∙_}
+use mathlib.Core.Path.{_≡_, refl, sym, _∙_}
 use mathlib.Core.List.{List, [], _∷_}
 use mathlib.Core.Bool.{Bool, true, false, cond}
-use lib.ListN.{getD, replicate, getD-replicate}
+use lib.ListN.{getD}
 use lib.Dec.{eqb}
 use borrow.Author.Tests.{eqb-true}
 use Rattle.layouts.specs.Answer.{Answer, refused, nothing, gives, refusal}
-use Rattle.subframes.specs.Subframe.{State, Page, wordOf, subframeOf, recordChecks, viewChecks, changed, isUsed, view}
+use Rattle.subframes.specs.Subframe.{State, recordChecks, viewChecks, view}
 use Rattle.subframes.specs.SubframePromises.{state, ViewSubframeShown}
 use Rattle.subframes.specs.declared.subframe.CollectSubframe.{CollectSubframe}
 use Rattle.subframes.specs.declared.subframe.Message.the-variants.{Hkroot}
 use Rattle.subframes.specs.declared.subframe.SubframeShown.{SubframeShown}
 use Rattle.subframes.specs.declared.subframe.SubframeShown.the-variants.{Shown, Nothing as NothingShown, Refused as NotShown}
-use Rattle.subframes.proofs.Pages.{other-week-taken, other-subframe-taken, unchanged}
 
 -- the question for satellite 1, which is refused where the record or the lent bytes are
 module _ (s : State) where
@@ -32,19 +31,24 @@ module _ (s : State) where
   unfolding view
   refused-with {n} f = go (eqb (refusal (viewChecks s 1)) 0) (eqb (getD (s .counts) (1 - 1) 0) 15) f ∙ asks
     where
-      go : (a b : Bool) → refused n ≡ cond a (cond b (gives (15 * (1 - 1) ∷ 15 ∷ [])) nothing) (refused (refusal (viewChecks s 1))) → n ≡ refusal (viewChecks s 1)
+      go :
+          (a b : Bool) → refused n ≡ cond a (cond b (gives (15 * (1 - 1) ∷ 15 ∷ [])) nothing) (refused (refusal (viewChecks s 1)))
+          → n ≡ refusal (viewChecks s 1)
       go true true f = let z : _≡_ {A = ℕ} 0 1 = cc in absurd (omega arith)
       go true false f = let z : _≡_ {A = ℕ} 0 1 = cc in absurd (omega arith)
       go false b f = cc
 
   nothing-there : nothing ≡ view s 15 1 → 0 ≡ refusal (recordChecks s)
   unfolding view
-  nothing-there f = admits (eqb (refusal (viewChecks s 1)) 0) (eqb (getD (s .counts) (1 - 1) 0) 15) nothing refl (λ n g. let z : _≡_ {A = ℕ} 0 1 = cc in absurd (omega arith)) f
+  nothing-there f =
+      admits (eqb (refusal (viewChecks s 1)) 0) (eqb (getD (s .counts) (1 - 1) 0) 15) nothing refl
+      (λ n g. let z : _≡_ {A = ℕ} 0 1 = cc in absurd (omega arith)) f
 
   shown-there : {first many : ℕ} → gives (first ∷ many ∷ []) ≡ view s 15 1 → 0 ≡ refusal (recordChecks s)
   unfolding view
   shown-there {first} {many} f =
-      admits (eqb (refusal (viewChecks s 1)) 0) (eqb (getD (s .counts) (1 - 1) 0) 15) (gives (first ∷ many ∷ [])) refl (λ n g. let z : _≡_ {A = ℕ} 0 1 = cc in absurd (omega arith)) f
+      admits (eqb (refusal (viewChecks s 1)) 0) (eqb (getD (s .counts) (1 - 1) 0) 15) (gives (first ∷ many ∷ [])) refl
+      (λ n g. let z : _≡_ {A = ℕ} 0 1 = cc in absurd (omega arith)) f
 
 module _ (c : CollectSubframe) (h m : List ℕ) (x : SubframeShown) (e : ViewSubframeShown c h m Hkroot 1 x) where
   pub asked-refused : {n : ℕ} → x ≡ NotShown n → n ≡ refusal (recordChecks (state c h m))
@@ -55,20 +59,3 @@ module _ (c : CollectSubframe) (h m : List ℕ) (x : SubframeShown) (e : ViewSub
 
   pub asked-shown : {first many : ℕ} → x ≡ Shown first many → 0 ≡ refusal (recordChecks (state c h m))
   asked-shown g = shown-there (state c h m) (rw g at e)
-
--- a page's word against the count of its satellite
-module _ (s : State) (p : Page) (i : p .satellite - 1 < 36) where
-  none-yet : _≡_ {A = State} (record { week = p .week; subframe = subframeOf (p .time); counts = replicate 36 0; hkroot = s .hkroot; mack = s .mack }) (changed s (p .week) (subframeOf (p .time)))
-      → eqb (wordOf (p .time)) 0 ≡ isUsed s p
-  unfolding isUsed
-  none-yet e = ap (eqb (wordOf (p .time))) (sym (getD-replicate 36 (p .satellite - 1) 0 0 i)) ∙ ap (λ (t : State). eqb (wordOf (p .time)) (getD (t .counts) (p .satellite - 1) 0)) e
-
-  pub used-other-week : (s .week ≡ p .week → ⊥) → eqb (wordOf (p .time)) 0 ≡ isUsed s p
-  used-other-week ne = none-yet (other-week-taken s (p .week) (subframeOf (p .time)) ne)
-
-  pub used-other-subframe : s .week ≡ p .week → (s .subframe ≡ subframeOf (p .time) → ⊥) → eqb (wordOf (p .time)) 0 ≡ isUsed s p
-  used-other-subframe e ne = none-yet (other-subframe-taken s (p .week) (subframeOf (p .time)) e ne)
-
-  pub used-same : s .week ≡ p .week → s .subframe ≡ subframeOf (p .time) → eqb (wordOf (p .time)) (getD (s .counts) (p .satellite - 1) 0) ≡ isUsed s p
-  unfolding isUsed
-  used-same e f = ap (λ (t : State). eqb (wordOf (p .time)) (getD (t .counts) (p .satellite - 1) 0)) (unchanged s (p .week) (subframeOf (p .time)) e f)

@@ -1,5 +1,6 @@
-pub mod Edges
+pub mod Agreed
 pub mod Pieces
 pub mod Replay
-pub mod ReplayInner
+pub mod ReplayHistory
 pub mod ReplayPromises
+pub mod inner

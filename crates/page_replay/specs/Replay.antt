@@ -6,8 +6,10 @@ use mathlib.Core.Bool.{Bool, true, false, cond, not, _&&_}
 use lib.ListN.{length, getD, take, drop}
 use lib.Dec.{leb, ltb, eqb}
 use Rattle.layouts.specs.Answer.{Answer, refused, nothing, gives, Check, _when_, refusal, copied}
-use Rattle.layouts.specs.Bits.{bit, field}
-use Rattle.subframes.specs.Subframe.{Page, recordChecks, isUsed, view, State as Subframes, new as newSubframes, Fed as SubframeFed, feed as feedPage}
+use Rattle.layouts.specs.Gst.{svnGstChecks}
+use Rattle.layouts.specs.InavPage.{isCounted, osnma}
+use Rattle.runs.specs.Runs.{afterAll}
+use Rattle.subframes.specs.Subframe.{Page, recordChecks, usedAnswer, view, State as Subframes, new as newSubframes, Fed as SubframeFed, feed as feedPage}
 use Rattle.dsms.specs.Dsm.{State as Dsms, new as newDsms, Fed as DsmFed, feed as feedBlock}
 
 -- "two seconds apart": the time of a page, and of a subframe
@@ -54,29 +56,16 @@ new satellite week time hkroot mack memory =
       totals = record { pages = 0; skipped = 0; used = 0; unused = 0; subframes = 0; dsms = 0 };
     }
 
--- 2, 3, 4: a satellite, week and first time that exceed their range
-abbrev pub newChecks : ℕ → ℕ → ℕ → List Check
-newChecks satellite week time =
-    2 when ltb satellite 1 ∷ 2 when ltb 36 satellite ∷ 3 when ltb 4095 week ∷ 4 when ltb 604799 time ∷ []
-
--- a new record, where it is not refused; "bytes or numbers that the form of an answer holds beside it are zero"
+-- a new record, where satellite, week and first time are not refused with 2, 3, 4; "bytes or numbers that the form of an answer holds beside it are zero"
 pub record Begun : Type 0 where
   pub state : State
   pub answer : Answer
 
 unfoldable pub begun : ℕ → ℕ → ℕ → List ℕ → List ℕ → List ℕ → Begun
 begun satellite week time hkroot mack memory =
-    cond (eqb (refusal (newChecks satellite week time)) 0)
+    cond (eqb (refusal (svnGstChecks satellite week time)) 0)
     (record { state = new satellite week time hkroot mack memory; answer = gives [] })
-    (record { state = new 0 0 0 hkroot mack memory; answer = refused (refusal (newChecks satellite week time)) })
-
--- "A page counts if bits 0, 1, 120, 121 are 0, 0, 1, 0"
-unfoldable pub isCounted : List ℕ → Bool
-isCounted page = eqb (bit page 0) 0 && eqb (bit page 1) 0 && eqb (bit page 120) 1 && eqb (bit page 121) 0
-
--- "OSNMA is bits 138..177": five bytes
-unfoldable pub osnma : List ℕ → List ℕ
-osnma page = field page 138 8 ∷ field page 146 8 ∷ field page 154 8 ∷ field page 162 8 ∷ field page 170 8 ∷ []
+    (record { state = new 0 0 0 hkroot mack memory; answer = refused (refusal (svnGstChecks satellite week time)) })
 
 -- what the pages so far made of a replay: its state, and the subframes and DSMs that they completed
 pub record Run : Type 0 where
@@ -141,6 +130,12 @@ dsmsIn (gives (i ∷ [])) = []
 dsmsIn (gives (i ∷ t ∷ [])) = []
 dsmsIn (gives (i ∷ t ∷ n ∷ l)) = record { id = i; bytes = n } ∷ []
 
+-- a page is used where the subframe collector, asked before, says so
+abbrev pub isTaken : Answer → Bool
+isTaken (refused n) = false
+isTaken nothing = false
+isTaken (gives l) = true
+
 abbrev pub one : Bool → ℕ
 one true = 1
 one false = 0
@@ -171,7 +166,7 @@ counted s u f d =
 
 unfoldable pub fed : State → Page → Run
 fed s p =
-    counted s (isUsed (s .subframes) p) (feedPage (s .subframes) p)
+    counted s (isTaken (usedAnswer (s .subframes) p)) (feedPage (s .subframes) p)
     (passedOn (feedPage (s .subframes) p .answer) (feedPage (s .subframes) p .state) (s .satellite) (s .dsms))
 
 -- A page step.
@@ -189,8 +184,7 @@ andThen r page =
 
 -- the pages one after the other
 abbrev pub onward : Run → List (List ℕ) → Run
-onward r [] = r
-onward r (page ∷ pages) = onward (andThen r page) pages
+onward r pages = afterAll andThen r pages
 
 unfoldable pub replayed : State → List (List ℕ) → Run
 replayed s pages = onward (record { state = s; subframes = []; dsms = [] }) pages
@@ -216,19 +210,21 @@ unfoldable pub areFew : Totals → Bool
 areFew t =
     leb (t .pages) most && leb (t .skipped) most && leb (t .used) most && leb (t .unused) most && leb (t .subframes) most && leb (t .dsms) most
 
--- 540, 2,160 and 208 bytes are lent, else 1; totals, "as is a satellite, week or time out of range in the record of a running replay", and a collector's record out of range: 12; "A budget above 15 is 7"
+-- the same checks, each under that number
+abbrev pub under : ℕ → List Check → List Check
+under n [] = []
+under n (c ∷ cs) = n when c .fails ∷ under n cs
+
+-- 540, 2,160 and 208 bytes are lent, else 1; totals, "as is a satellite, week or time out of range in the record of a running replay", and a collector's
+-- record out of range: 12; "A budget above 15 is 7"
 abbrev pub replayChecks : State → ℕ → List Check
 replayChecks s budget =
     1 when not (eqb (length (s .dsms .memory)) 208) ∷
     recordChecks (s .subframes) ++
     (12 when ltb 15 (s .dsms .id) ∷
     12 when not (areFew (s .totals)) ∷
-    12 when ltb (s .satellite) 1 ∷
-    12 when ltb 36 (s .satellite) ∷
-    12 when ltb 4095 (s .next .week) ∷
-    12 when ltb 604799 (s .next .time) ∷
-    7 when ltb 15 budget ∷
-    [])
+    under 12 (svnGstChecks (s .satellite) (s .next .week) (s .next .time)) ++
+    (7 when ltb 15 budget ∷ []))
 
 -- "and reports that number"; a call "completes at most one subframe and one DSM, and answers them"
 pub record Outcome : Type 0 where

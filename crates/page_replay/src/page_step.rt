@@ -1,5 +1,5 @@
 // What one page does to a replay: it is skipped, or feeds the subframe collector, whose complete HKROOTs feed the DSM collector.
-use crate::inav_page;
+use crate::page_time;
 use crate::replay::DsmDone;
 use crate::replay::PageReplay;
 use crate::replay::SubframeDone;
@@ -7,20 +7,24 @@ use dsms::dsm;
 use dsms::dsm::CollectDsm;
 use dsms::dsm::DsmAnswer;
 use dsms::dsm::DsmFed;
+use layouts::inav_page;
+use layouts::inav_page::PageKind;
 use subframes::subframe;
 use subframes::subframe::CollectSubframe;
 use subframes::subframe::SubframeAnswer;
 use subframes::subframe::SubframeFed;
+use subframes::subframe::WordAnswer;
 ghost use mathlib.Core.Path.{_≡_};
 ghost use mathlib.Core.List.{List};
-ghost use Prim.Native.Nat.{ℕ, _+_, _^_, _≤_};
+ghost use Prim.Native.Nat.{ℕ, _+_, _^_};
 ghost use lib.ListN.{length};
-ghost use Rattle.page_replay.specs.Replay.{osnma as osnmaOf, hkrootOf, fedHkroot, passedOn, subframesIn, dsmsIn, one as oneOf, skipped as skippedOf, counted as countedOf, fed as fedOf, pageStep};
-ghost use Rattle.subframes.specs.Subframe.{isUsed};
-ghost use Rattle.subframes.specs.SubframePromises.{outcome as subframeOutcome, meaning-subframe, state as subframeState};
+ghost use Rattle.page_replay.specs.Replay.{isTaken, hkrootOf, fedHkroot, passedOn, subframesIn, dsmsIn, one as oneOf, skipped as skippedOf};
+ghost use Rattle.page_replay.specs.Replay.{counted as countedOf, fed as fedOf, pageStep};
+ghost use Rattle.layouts.specs.InavPage.{isCounted, osnma as osnmaOf};
+ghost use Rattle.subframes.specs.SubframePromises.{outcome as subframeOutcome, meaning-subframe, meaning-word, state as subframeState};
 ghost use Rattle.dsms.specs.DsmPromises.{meaning-dsm, state as dsmState};
 ghost use Rattle.page_replay.specs.ReplayPromises.{state, meaning-subframes, meaning-dsms};
-ghost use Rattle.page_replay.specs.ReplayInner.{dsmOutcome, ran, Room, InRange};
+ghost use Rattle.page_replay.specs.inner.Steps.{dsmOutcome, ran, Room, InRange};
 
 // What pages made of a replay, and what they completed.
 pub(crate) struct Stepped {
@@ -29,20 +33,27 @@ pub(crate) struct Stepped {
     pub dsm: DsmDone,
 }
 
-// Whether the subframe collector takes the satellite's page of that week and time.
-fn is_used(collector: CollectSubframe, satellite: u8, week: u16, time: u32) -> bool
-    requires { ⌜ (1 ≤ satellite) × (satellite ≤ 36) × (time ≤ 604799) ⌝ }
-    ensures { λ r. ⌜ ((h m bytes : List ℕ) → r ≡ isUsed (subframeState collector h m) (record { bytes = bytes; satellite = satellite; week = week; time = time })) ⌝ }
+// Whether the page counts.
+fn counts(page: &[u8]) -> bool
+    requires { ⌜ length (now page) ≡ 30 ⌝ }
+    ensures { λ r. ⌜ r ≡ isCounted (now (page .entry)) ⌝ }
 {
-    let word = (time / 2 % 15) as u8;
-    if collector.week != week {
-        return word == 0;
+    match inav_page::kind(page) {
+        PageKind::Counts => true,
+        PageKind::Skipped => false,
+        PageKind::Refused(_) => false,
     }
-    if collector.subframe != (time / 30) as u16 {
-        return word == 0;
+}
+
+// Whether the subframe collector's question is answered with yes.
+fn is_taken(answer: WordAnswer) -> bool
+    ensures { λ r. ⌜ r ≡ isTaken (meaning-word answer) ⌝ }
+{
+    match answer {
+        WordAnswer::Refused(_) => false,
+        WordAnswer::Unused => false,
+        WordAnswer::Used => true,
     }
-    let i = (satellite - 1) as usize;
-    word == collector.counts[i]
 }
 
 // An HKROOT message feeds the DSM collector: byte 1 is the DSM header, the block follows it.
@@ -61,7 +72,8 @@ fn feed_hkroot(
     dsms: CollectDsm,
     dsm: &mut [u8],
 ) -> DsmFed
-    ensures { λ r. ⌜ dsmOutcome r (now (dsm .exit)) ≡ fedHkroot (dsmState dsms (now (dsm .entry))) (hkrootOf (subframeState collector (now (hkroot .entry)) (now (mack .entry))) satellite) ⌝ }
+    ensures { λ r. ⌜ dsmOutcome r (now (dsm .exit))
+        ≡ fedHkroot (dsmState dsms (now (dsm .entry))) (hkrootOf (subframeState collector (now (hkroot .entry)) (now (mack .entry))) satellite) ⌝ }
 {
     let message = subframe::hkroot_message(collector, hkroot, mack, satellite);
     let bytes = message.bytes;
@@ -77,7 +89,9 @@ fn pass_on(
     dsms: CollectDsm,
     dsm: &mut [u8],
 ) -> DsmFed
-    ensures { λ r. ⌜ dsmOutcome r (now (dsm .exit)) ≡ passedOn (meaning-subframe (fed .answer)) (subframeState (fed .collector) (now (hkroot .entry)) (now (mack .entry))) satellite (dsmState dsms (now (dsm .entry))) ⌝ }
+    ensures { λ r. ⌜ dsmOutcome r (now (dsm .exit))
+        ≡ passedOn (meaning-subframe (fed .answer))
+        (subframeState (fed .collector) (now (hkroot .entry)) (now (mack .entry))) satellite (dsmState dsms (now (dsm .entry))) ⌝ }
 {
     let answer = fed.answer;
     match answer {
@@ -150,13 +164,14 @@ fn one(b: bool) -> u64
 // After a page that counts, used or not, by what the two collectors made of it.
 fn tally(record: PageReplay, used: bool, fed: SubframeFed, passed: DsmFed) -> Stepped
     requires { ⌜ InRange «record» × Room «record» (2 ^ 62 + 14) ⌝ }
-    ensures { λ r. ⌜ ((h m d h₀ m₀ d₀ : List ℕ) → ran r h m d ≡ countedOf (state «record» h₀ m₀ d₀) used (subframeOutcome fed h m) (dsmOutcome passed d)) ⌝ }
+    ensures { λ r. ⌜ ((h m d h₀ m₀ d₀ : List ℕ) → ran r h m d
+        ≡ countedOf (state «record» h₀ m₀ d₀) used (subframeOutcome fed h m) (dsmOutcome passed d)) ⌝ }
 {
     let answer = fed.answer;
     let dsm_answer = passed.answer;
     let subframe = subframe_done(answer);
     let dsm = dsm_done(dsm_answer);
-    let at = inav_page::later(record.week, record.time);
+    let at = page_time::later(record.week, record.time);
     let subframes = fed.collector;
     let dsms = passed.collector;
     let replay = PageReplay {
@@ -184,7 +199,7 @@ fn skip(record: PageReplay) -> Stepped
     requires { ⌜ InRange «record» × Room «record» (2 ^ 62 + 14) ⌝ }
     ensures { λ r. ⌜ ((h m d : List ℕ) → ran r h m d ≡ skippedOf (state «record» h m d)) ⌝ }
 {
-    let at = inav_page::later(record.week, record.time);
+    let at = page_time::later(record.week, record.time);
     let mut replay = record;
     replay.week = at.week;
     replay.time = at.time;
@@ -206,15 +221,19 @@ fn feed_page(
     page: &[u8],
 ) -> Stepped
     requires { ⌜ InRange «record» × Room «record» (2 ^ 62 + 14) × (length (now page) ≡ 30) ⌝ }
-    ensures { λ r. ⌜ ran r (now (hkroot .exit)) (now (mack .exit)) (now (dsm .exit)) ≡ fedOf (state «record» (now (hkroot .entry)) (now (mack .entry)) (now (dsm .entry))) (record { bytes = osnmaOf (now (page .entry)); satellite = «record» .satellite; week = «record» .week; time = «record» .time }) ⌝ }
+    ensures { λ r. ⌜ ran r (now (hkroot .exit)) (now (mack .exit)) (now (dsm .exit))
+        ≡ fedOf (state «record» (now (hkroot .entry)) (now (mack .entry)) (now (dsm .entry)))
+        (record { bytes = osnmaOf (now (page .entry)); satellite = «record» .satellite; week = «record» .week; time = «record» .time }) ⌝ }
 {
     let satellite = record.satellite;
     let week = record.week;
     let time = record.time;
     let collector = record.subframes;
     let dsms = record.dsms;
-    let used = is_used(collector, satellite, week, time);
-    let bytes = inav_page::osnma(page);
+    let answer = subframe::is_used(collector, satellite, week, time);
+    let used = is_taken(answer);
+    let field = inav_page::osnma(page);
+    let bytes = field.bytes;
     let fed = subframe::feed(collector, hkroot, mack, &bytes, satellite, week, time);
     let passed = pass_on(fed, hkroot, mack, satellite, dsms, dsm);
     tally(record, used, fed, passed)
@@ -229,9 +248,10 @@ pub(crate) fn page_step(
     page: &[u8],
 ) -> Stepped
     requires { ⌜ InRange «record» × Room «record» (2 ^ 62 + 14) × (length (now page) ≡ 30) ⌝ }
-    ensures { λ r. ⌜ ran r (now (hkroot .exit)) (now (mack .exit)) (now (dsm .exit)) ≡ pageStep (state «record» (now (hkroot .entry)) (now (mack .entry)) (now (dsm .entry))) (now (page .entry)) ⌝ }
+    ensures { λ r. ⌜ ran r (now (hkroot .exit)) (now (mack .exit)) (now (dsm .exit))
+        ≡ pageStep (state «record» (now (hkroot .entry)) (now (mack .entry)) (now (dsm .entry))) (now (page .entry)) ⌝ }
 {
-    if !inav_page::counts(page) {
+    if !counts(page) {
         return skip(record);
     }
     feed_page(record, hkroot, mack, dsm, page)

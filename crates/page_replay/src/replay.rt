@@ -3,20 +3,23 @@ use crate::page_step;
 use crate::page_step::Stepped;
 use dsms::dsm;
 use dsms::dsm::CollectDsm;
+use layouts::gst;
+use layouts::numbers;
 use subframes::subframe;
 use subframes::subframe::CollectSubframe;
 use subframes::subframe::Message;
 use subframes::subframe::SubframeShown;
 ghost use mathlib.Core.Path.{_≡_};
 ghost use mathlib.Core.List.{[], _++_};
-ghost use Prim.Native.Nat.{_+_, _*_, _^_, _≤_, min};
+ghost use Prim.Native.Nat.{_+_, _*_, _^_, _≤_};
 ghost use lib.ListN.{length};
 ghost use Rattle.layouts.specs.Answer.{refusal as refusalOf};
-ghost use Rattle.page_replay.specs.Replay.{new as newOf, andThen, replayed, pagesOf, areFew, newChecks, replayChecks};
+ghost use Rattle.layouts.specs.Gst.{svnGstChecks};
+ghost use Rattle.page_replay.specs.Replay.{new as newOf, andThen, replayed, pagesOf, areFew, replayChecks};
 ghost use Rattle.subframes.specs.Subframe.{recordChecks};
 ghost use Rattle.subframes.specs.SubframePromises.{state as subframeState};
 ghost use Rattle.page_replay.specs.ReplayPromises.{state, meaning-subframes, meaning-dsms, BeginReplay, ReplayPages};
-ghost use Rattle.page_replay.specs.ReplayInner.{ran, Room, InRange, AtMostOne};
+ghost use Rattle.page_replay.specs.inner.Steps.{ran, Room, InRange, AtMostOne};
 
 // A running replay: satellite, week and time of the next page, the two collectors' records, and the totals so far.
 pub struct PageReplay {
@@ -69,21 +72,9 @@ pub struct Replayed {
 
 // The refusal number of a satellite, a week and a time; 0 for none.
 fn new_refuses(satellite: u8, week: u16, time: u32) -> u8
-    ensures { λ r. ⌜ r ≡ refusalOf (newChecks satellite week time) ⌝ }
+    ensures { λ r. ⌜ r ≡ refusalOf (svnGstChecks satellite week time) ⌝ }
 {
-    if satellite < 1 {
-        return 2;
-    }
-    if 36 < satellite {
-        return 2;
-    }
-    if 4095 < week {
-        return 3;
-    }
-    if 604799 < time {
-        return 4;
-    }
-    0
+    gst::refuses(satellite as u64, week as u64, time as u64)
 }
 
 // A record of no pages yet.
@@ -157,7 +148,8 @@ fn and_then(
 ) -> Stepped
     requires { ⌜ InRange («so_far» .replay) × Room («so_far» .replay) (2 ^ 62 + 14) × (length (now page) ≡ 30) ⌝ }
     requires { ⌜ AtMostOne (andThen (ran «so_far» (now hkroot) (now mack) (now dsm)) (now page)) ⌝ }
-    ensures { λ r. ⌜ ran r (now (hkroot .exit)) (now (mack .exit)) (now (dsm .exit)) ≡ andThen (ran «so_far» (now (hkroot .entry)) (now (mack .entry)) (now (dsm .entry))) (now (page .entry)) ⌝ }
+    ensures { λ r. ⌜ ran r (now (hkroot .exit)) (now (mack .exit)) (now (dsm .exit))
+        ≡ andThen (ran «so_far» (now (hkroot .entry)) (now (mack .entry)) (now (dsm .entry))) (now (page .entry)) ⌝ }
 {
     let before = so_far.replay;
     let subframe_before = so_far.subframe;
@@ -175,15 +167,6 @@ fn and_then(
     }
 }
 
-fn smaller(a: usize, b: usize) -> usize
-    ensures { λ r. ⌜ r ≡ min a b ⌝ }
-{
-    if a < b {
-        return a;
-    }
-    b
-}
-
 // The first `n` pages.
 fn run(
     record: PageReplay,
@@ -194,7 +177,8 @@ fn run(
     n: usize,
 ) -> Stepped
     requires { ⌜ InRange «record» × Room «record» (2 ^ 62) × (n ≤ 15) × (30 * n ≤ length (now pages)) ⌝ }
-    ensures { λ r. ⌜ ran r (now (hkroot .exit)) (now (mack .exit)) (now (dsm .exit)) ≡ replayed (state «record» (now (hkroot .entry)) (now (mack .entry)) (now (dsm .entry))) (pagesOf n (now (pages .entry))) ⌝ }
+    ensures { λ r. ⌜ ran r (now (hkroot .exit)) (now (mack .exit)) (now (dsm .exit))
+        ≡ replayed (state «record» (now (hkroot .entry)) (now (mack .entry)) (now (dsm .entry))) (pagesOf n (now (pages .entry))) ⌝ }
 {
     let mut so_far = Stepped {
         replay: record,
@@ -286,7 +270,8 @@ pub fn replay(
     pages: &[u8],
     budget: usize,
 ) -> Replayed
-    ensures { λ r. ⌜ ReplayPages «record» (now (hkroot .entry)) (now (mack .entry)) (now (dsm .entry)) (now (pages .entry)) budget r (now (hkroot .exit)) (now (mack .exit)) (now (dsm .exit)) ⌝ }
+    ensures { λ r. ⌜ ReplayPages «record» (now (hkroot .entry)) (now (mack .entry)) (now (dsm .entry)) (now (pages .entry)) budget r
+        (now (hkroot .exit)) (now (mack .exit)) (now (dsm .exit)) ⌝ }
 {
     let refusal = refuses(record, hkroot, mack, dsm, budget);
     if refusal != 0 {
@@ -297,7 +282,7 @@ pub fn replay(
             dsm: DsmDone::None,
         };
     }
-    let n = smaller(budget, pages.len() / 30);
+    let n = numbers::smaller(budget, pages.len() / 30);
     let done = run(record, hkroot, mack, dsm, pages, n);
     let replay = done.replay;
     let subframe = done.subframe;

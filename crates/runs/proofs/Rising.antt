@@ -52,7 +52,8 @@ module _ {A : Type 0} (hit : A → ℕ → Bool) (d : A) where
         at = λ k. down (q .at k);
         inside = λ k l u. omega (arith, q .inside k (omega arith) u, suc-down (q .at k) (up k l u));
         hits = λ k l u. rw (← getD-down a xs (q .at k) (up k l u)) (q .hits k (omega arith) u);
-        rising = λ k l u. omega (arith, q .rising k (omega arith) u, suc-down (q .at k) (up k l (omega arith)), suc-down (q .at (suc k)) (up (suc k) (omega arith) u));
+        rising = λ k l u. let here = suc-down (q .at k) (up k l (omega arith)) in let then = suc-down (q .at (suc k)) (up (suc k) (omega arith) u) in
+            omega (arith, q .rising k (omega arith) u, here, then);
       }
 
   above : {xs : List A} {n m : ℕ} (q : Chain xs n m) (k : ℕ) → n < k → k < m → 0 < q .at k
@@ -78,7 +79,8 @@ module _ {A : Type 0} (hit : A → ℕ → Bool) (d : A) where
       go (no h) = absurd (not-suc-le-zero (q .inside n (le-refl n) (omega arith)))
   bound (a ∷ xs) n m q = go (hit a n) refl (bound xs (suc n) m) (bound xs n m)
     where
-      go : (b : Bool) → hit a n ≡ b → (Chain xs (suc n) m → m ≤ count hit (suc n) xs) → (Chain xs n m → m ≤ count hit n xs) → m ≤ count hit (cond b (suc n) n) xs
+      go : (b : Bool) → hit a n ≡ b → (Chain xs (suc n) m → m ≤ count hit (suc n) xs) → (Chain xs n m → m ≤ count hit n xs)
+          → m ≤ count hit (cond b (suc n) n) xs
       go true e up same = up (lower q (suc n) (omega arith) (above q))
       go false e up same = same (lower q n (le-refl n) (past q e))
 
@@ -139,7 +141,8 @@ module _ {A : Type 0} (hit : A → ℕ → Bool) (d : A) where
       go : (b t : Bool) → eqb k n ≡ t → (t′ : Bool) → eqb (suc k) n ≡ t′ → suc k < count hit (cond b (suc n) n) xs
           → (suc n ≤ k → suc k < count hit (suc n) xs → taken hit (suc n) xs k < taken hit (suc n) xs (suc k))
           → (n ≤ k → suc k < count hit n xs → taken hit n xs k < taken hit n xs (suc k))
-          → cond b (cond t 0 (suc (taken hit (suc n) xs k))) (suc (taken hit n xs k)) < cond b (cond t′ 0 (suc (taken hit (suc n) xs (suc k)))) (suc (taken hit n xs (suc k)))
+          → cond b (cond t 0 (suc (taken hit (suc n) xs k))) (suc (taken hit n xs k))
+          < cond b (cond t′ 0 (suc (taken hit (suc n) xs (suc k)))) (suc (taken hit n xs (suc k)))
       go true t f true f′ u up same = absurd (omega (arith, eqb-true (suc k) n f′))
       go true true f false f′ u up same = omega arith
       go true false f false f′ u up same = let ne = eqb-false k n f in omega (arith, up (omega arith) u)
@@ -151,7 +154,13 @@ module _ {A : Type 0} (hit : A → ℕ → Bool) (d : A) where
 
   -- the first part of a chain
   abbrev pub shorter : {xs : List A} {n m : ℕ} (l : ℕ) → l ≤ m → Chain xs n m → Chain xs n l
-  shorter l h q = record { at = q .at; inside = λ k a b. q .inside k a (omega arith); hits = λ k a b. q .hits k a (omega arith); rising = λ k a b. q .rising k a (omega arith) }
+  shorter l h q =
+      record {
+        at = q .at;
+        inside = λ k a b. q .inside k a (omega arith);
+        hits = λ k a b. q .hits k a (omega arith);
+        rising = λ k a b. q .rising k a (omega arith);
+      }
 
   -- there is a chain up to m exactly where the count reaches m
   pub reaches : (xs : List A) (n m : ℕ) → (m ≤ count hit n xs) ↔ Chain xs n m
@@ -183,10 +192,14 @@ module _ {A : Type 0} (hit : A → ℕ → Bool) (d : A) where
   chosen-new [] n c h = rw (h, eq-eqb n n refl)
   chosen-new (a ∷ xs) n c h = go (hit a n) h (chosen-new xs (suc n) c) (chosen-new xs n c) (up-from xs (suc n))
     where
+      -- where k is taken, by whether a was taken for n
+      place : Bool → ℕ → ℕ
+      place b k = cond b (cond (eqb k n) 0 (suc (taken hit (suc n) (xs ++ (c ∷ [])) k))) (suc (taken hit n (xs ++ (c ∷ [])) k))
+
       go : (b : Bool) → hit c (count hit (cond b (suc n) n) xs) ≡ true
           → (hit c (count hit (suc n) xs) ≡ true → chosen (suc n) (xs ++ (c ∷ [])) (count hit (suc n) xs) ≡ c)
           → (hit c (count hit n xs) ≡ true → chosen n (xs ++ (c ∷ [])) (count hit n xs) ≡ c)
           → suc n ≤ count hit (suc n) xs
-          → getD (a ∷ (xs ++ (c ∷ []))) (cond b (cond (eqb (count hit (cond b (suc n) n) xs) n) 0 (suc (taken hit (suc n) (xs ++ (c ∷ [])) (count hit (cond b (suc n) n) xs)))) (suc (taken hit n (xs ++ (c ∷ [])) (count hit (cond b (suc n) n) xs)))) d ≡ c
+          → getD (a ∷ (xs ++ (c ∷ []))) (place b (count hit (cond b (suc n) n) xs)) d ≡ c
       go true h up same l = rw (ne-eqb (count hit (suc n) xs) n (λ z. absurd (omega (arith, l, z)))) (up h)
       go false h up same l = same h

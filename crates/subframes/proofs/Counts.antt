@@ -12,7 +12,7 @@ use lib.Dec.{leb, eqb}
 use lib.Bits.{bitAnd, and-block, and-high}
 use borrow.Author.Tests.{leb-true, leb-false, eq-eqb, ne-eqb, not-true, not-false}
 use Rattle.subframes.specs.Subframe.{small}
-use Rattle.subframes.specs.SubframeInner.{packed, Joined, eightOf}
+use Rattle.subframes.specs.inner.Subframe.{packed, Joined, eightOf}
 
 -- the high half of each byte
 unfoldable mask : List ℕ → ℕ

@@ -6,55 +6,34 @@ use mathlib.Core.Path.{_≡_, refl, sym, ap, _∙_, subst}
 use mathlib.Core.List.{List, [], _∷_}
 use mathlib.Core.Bool.{true, false}
 use lib.ListN.{length, getD, take, drop, length-take, length-drop}
-use borrow.Author.Tests.{le-ltb, lt-ltb, eq-eqb, ne-eqb}
+use borrow.Author.Tests.{eq-eqb, ne-eqb}
 use Rattle.layouts.specs.Answer.{Answer, refused, nothing, gives, refusal}
+use Rattle.layouts.specs.Gst.{svnGstChecks}
 use Rattle.layouts.proofs.Answers.{none-fails}
-use Rattle.subframes.specs.Subframe.{State, Page, Fed, recordChecks, viewChecks, feedChecks, feed}
+use Rattle.subframes.specs.Subframe.{State, Page, Fed, recordChecks, feedChecks, feed}
 use Rattle.subframes.specs.Trace.{entryAt, entriesFrom, entries, FedMany, feedEach, traceChecks, feedAll}
-use Rattle.subframes.specs.PageInner.{pageOf, stateOf, answerOf, PageFed}
-use Rattle.subframes.specs.TraceInner.{entryChecks, completesOf, endsWith}
+use Rattle.subframes.specs.inner.Page.{pageOf, stateOf, answerOf, PageFed}
+use Rattle.subframes.specs.inner.Trace.{completesOf, endsWith}
 use Rattle.subframes.specs.declared.page.Entry.{Entry}
 use Rattle.subframes.specs.declared.page.PageTaken.{PageTaken}
 use Rattle.subframes.specs.declared.page.PageTaken.the-variants.{Unused, Used, Completes}
 use Rattle.subframes.proofs.Pages.{fine, feed-refused}
 use Rattle.subframes.proofs.SubframeSound.{Sound, sound, sound-passes, sound-fed}
 
--- The refusals of an entry.
-module _ (n w t : ℕ) where
-  pub no-satellite : n < 1 → 2 ≡ refusal (entryChecks n w t)
-  unfolding refusal
-  no-satellite h = rw (lt-ltb n 1 h)
-
-  pub high-satellite : 1 ≤ n → 36 < n → 2 ≡ refusal (entryChecks n w t)
-  unfolding refusal
-  high-satellite h0 h = rw (le-ltb n 1 h0, lt-ltb 36 n h)
-
-  pub high-week : 1 ≤ n → n ≤ 36 → 4095 < w → 3 ≡ refusal (entryChecks n w t)
-  unfolding refusal
-  high-week h0 h1 h = rw (le-ltb n 1 h0, le-ltb 36 n h1, lt-ltb 4095 w h)
-
-  pub high-time : 1 ≤ n → n ≤ 36 → w ≤ 4095 → 604799 < t → 4 ≡ refusal (entryChecks n w t)
-  unfolding refusal
-  high-time h0 h1 h2 h = rw (le-ltb n 1 h0, le-ltb 36 n h1, le-ltb 4095 w h2, lt-ltb 604799 t h)
-
-  pub right-entry : 1 ≤ n → n ≤ 36 → w ≤ 4095 → t ≤ 604799 → 0 ≡ refusal (entryChecks n w t)
-  unfolding refusal
-  right-entry h0 h1 h2 h3 = rw (le-ltb n 1 h0, le-ltb 36 n h1, le-ltb 4095 w h2, le-ltb 604799 t h3)
-
--- and of a trace
+-- The refusals of a trace.
 module _ (s : State) (trace : List ℕ) where
   pub not-whole : (length trace % 12 ≡ 0 → ⊥) → 1 ≡ refusal (traceChecks s trace)
   unfolding refusal
   not-whole ne = rw (ne-eqb (length trace % 12) 0 ne)
 
-  pub whole : {q : ℕ} → length trace % 12 ≡ 0 → q ≡ refusal (viewChecks s 1) → q ≡ refusal (traceChecks s trace)
+  pub whole : {q : ℕ} → length trace % 12 ≡ 0 → q ≡ refusal (recordChecks s) → q ≡ refusal (traceChecks s trace)
   unfolding refusal
   whole e h = rw (eq-eqb (length trace % 12) 0 e) h
 
 -- of a record that is not refused only the entry can be
-pub entry-refusal : (s : State) (p : Page) {q : ℕ} → Sound s → length (p .bytes) ≡ 5 → q ≡ refusal (entryChecks (p .satellite) (p .week) (p .time)) → q ≡ refusal (feedChecks s p)
+pub entry-refusal : (s : State) (p : Page) {q : ℕ} → Sound s → length (p .bytes) ≡ 5 → q ≡ refusal (svnGstChecks (p .satellite) (p .week) (p .time)) → q ≡ refusal (feedChecks s p)
 unfolding refusal
-entry-refusal s p d l e = rw (eq-eqb (length (p .bytes)) 5 l) (e ∙ sym (sound-passes s d (entryChecks (p .satellite) (p .week) (p .time))))
+entry-refusal s p d l e = rw (eq-eqb (length (p .bytes)) 5 l) (e ∙ sym (sound-passes s d (svnGstChecks (p .satellite) (p .week) (p .time))))
 
 -- What is answered where a trace ends before an entry.
 module _ (n q : ℕ) where
@@ -118,7 +97,7 @@ module _ {s₀ s : State} {trace : List ℕ} {k : ℕ} (d : Left s₀ trace k s)
   unfolding feedEach
   turn-none h ex = ex ∙ rw (entries-none trace k (length trace / 12) h) at (d .rest)
 
-  module _ (e : Entry) (h : k < length trace / 12) (pe : pageOf e (take 5 (drop (12 * k + 7) trace)) ≡ entryAt trace k) {q : ℕ} (eq : q ≡ refusal (entryChecks (e .satellite) (e .week) (e .time))) where
+  module _ (e : Entry) (h : k < length trace / 12) (pe : pageOf e (take 5 (drop (12 * k + 7) trace)) ≡ entryAt trace k) {q : ℕ} (eq : q ≡ refusal (svnGstChecks (e .satellite) (e .week) (e .time))) where
     later : List Page
     later = entriesFrom trace (k + 1) (length trace / 12 - (k + 1))
 

@@ -1,8 +1,12 @@
 pub mod Counts
 pub mod Entries
 pub mod Pages
+pub mod SubframeHistory
 pub mod SubframeRecovery
 pub mod SubframeRun
 pub mod SubframeSound
 pub mod SubframeUnique
+pub mod SubframeUsed
+pub mod TraceSteps
 pub mod TraceUnique
+pub mod TraceWalk

@@ -5,20 +5,22 @@ use native.Mathlib.Omega.{arith}
 use mathlib.Core.Path.{_≡_, refl, sym, ap, _∙_}
 use mathlib.Core.List.{List, [], _∷_}
 use mathlib.Core.Bool.{Bool, true, false, cond, not}
-use lib.ListN.{length, getD, set, take, drop, replicate}
+use lib.ListN.{length, getD, set, take, drop, replicate, getD-replicate}
 use lib.Dec.{ltb, eqb, eqb·suc-zero}
 use borrow.Author.Tests.{le-ltb, lt-ltb, eq-eqb, ne-eqb, eqb-true, ltb-false, not-false}
-use Rattle.layouts.specs.Answer.{Answer, refused, nothing, gives, _when_, refusal, shown, Copied, copied}
+use Rattle.layouts.specs.Answer.{Answer, refused, nothing, gives, Check, refusal, shown, Copied, copied}
+use Rattle.layouts.specs.Gst.{svnChecks, svnGstChecks}
 use Rattle.layouts.proofs.Answers.{none-fails, stopped, went-on, copied-refused, copied-bytes}
-use Rattle.subframes.specs.Subframe.{State, Page, Fed, WordStep, wordOf, subframeOf, isUsed, small, viewChecks, feedChecks, takeWord, changed, put4, answerAt, used, offered, feed, view}
-use Rattle.subframes.specs.PageInner.{pageOf, stateOf, answerOf, usedOf, Offered, PageFed}
+use Rattle.subframes.specs.Subframe.{State, Page, Fed, WordStep, wordOf, subframeOf, small, rangeChecks, recordChecks, viewChecks}
+use Rattle.subframes.specs.Subframe.{askChecks, feedChecks, takeWord, changed, put4, answerAt, used, offered, isUsed, feed, usedAnswer, view}
+use Rattle.subframes.specs.inner.Page.{pageOf, stateOf, answerOf, usedOf, Offered, PageFed}
 use Rattle.subframes.specs.SubframePromises.{state, TakeWord, meaning-word, sizeOf, bufferOf, meaning-shown, ViewSubframeShown, ViewSubframe}
 use Rattle.subframes.specs.declared.page.Entry.{Entry}
 use Rattle.subframes.specs.declared.page.PageTaken.{PageTaken}
 use Rattle.subframes.specs.declared.page.PageTaken.the-variants.{Unused, Used, Completes}
 use Rattle.subframes.specs.declared.subframe.Message.{Message}
 use Rattle.subframes.specs.declared.subframe.Message.the-variants.{Hkroot, Mack}
-use Rattle.subframes.specs.SubframeInner.{Inside}
+use Rattle.subframes.specs.inner.Subframe.{Inside}
 use Rattle.subframes.specs.declared.subframe.CollectSubframe.{CollectSubframe}
 use Rattle.subframes.specs.declared.subframe.SubframeShown.{SubframeShown}
 use Rattle.subframes.specs.declared.subframe.SubframeShown.the-variants.{Shown, Nothing as NothingShown, Refused as NotShown}
@@ -26,66 +28,72 @@ use Rattle.subframes.specs.declared.subframe.WordAnswer.{WordAnswer}
 use Rattle.subframes.specs.declared.subframe.WordAnswer.the-variants.{Refused as WordRefused, Unused as WordUnused, Used as WordUsed}
 use Rattle.subframes.specs.declared.subframe.WordTaken.{WordTaken}
 
--- The refusals.
-module _ (s : State) (n : ℕ) where
-  pub other-hkroot : (length (s .hkroot) ≡ 540 → ⊥) → 1 ≡ refusal (viewChecks s n)
+-- The refusals: of the record,
+module _ (s : State) where
+  pub other-week : 4095 < s .week → 12 ≡ refusal (rangeChecks s)
+  unfolding refusal
+  other-week h = rw (lt-ltb 4095 (s .week) h)
+
+  module _ (h0 : s .week ≤ 4095) where
+    pub other-subframe : 20159 < s .subframe → 12 ≡ refusal (rangeChecks s)
+    unfolding refusal
+    other-subframe h = rw (le-ltb 4095 (s .week) h0, lt-ltb 20159 (s .subframe) h)
+
+    module _ (h1 : s .subframe ≤ 20159) {b : Bool} (e : b ≡ small (s .counts)) where
+      pub other-counts : not b ≡ true → 12 ≡ refusal (rangeChecks s)
+      unfolding refusal
+      other-counts h = rw (le-ltb 4095 (s .week) h0, le-ltb 20159 (s .subframe) h1, ← e, h)
+
+      pub ranged : not b ≡ false → 0 ≡ refusal (rangeChecks s)
+      unfolding refusal
+      ranged h = rw (le-ltb 4095 (s .week) h0, le-ltb 20159 (s .subframe) h1, ← e, h)
+
+  -- of the lent bytes and the record,
+  pub other-hkroot : (length (s .hkroot) ≡ 540 → ⊥) → 1 ≡ refusal (recordChecks s)
   unfolding refusal
   other-hkroot h = rw (ne-eqb (length (s .hkroot)) 540 h)
 
-  pub other-mack : length (s .hkroot) ≡ 540 → (length (s .mack) ≡ 2160 → ⊥) → 1 ≡ refusal (viewChecks s n)
-  unfolding refusal
-  other-mack h0 h = rw (eq-eqb (length (s .hkroot)) 540 h0, ne-eqb (length (s .mack)) 2160 h)
+  module _ (h0 : length (s .hkroot) ≡ 540) where
+    pub other-mack : (length (s .mack) ≡ 2160 → ⊥) → 1 ≡ refusal (recordChecks s)
+    unfolding refusal
+    other-mack h = rw (eq-eqb (length (s .hkroot)) 540 h0, ne-eqb (length (s .mack)) 2160 h)
 
-  pub other-week : length (s .hkroot) ≡ 540 → length (s .mack) ≡ 2160 → 4095 < s .week → 12 ≡ refusal (viewChecks s n)
-  unfolding refusal
-  other-week h0 h1 h = rw (eq-eqb (length (s .hkroot)) 540 h0, eq-eqb (length (s .mack)) 2160 h1, lt-ltb 4095 (s .week) h)
+    pub right-lengths : {q : ℕ} → length (s .mack) ≡ 2160 → q ≡ refusal (rangeChecks s) → q ≡ refusal (recordChecks s)
+    unfolding refusal
+    right-lengths h1 e = rw (eq-eqb (length (s .hkroot)) 540 h0, eq-eqb (length (s .mack)) 2160 h1) e
 
-  pub other-subframe : length (s .hkroot) ≡ 540 → length (s .mack) ≡ 2160 → s .week ≤ 4095 → 20159 < s .subframe → 12 ≡ refusal (viewChecks s n)
-  unfolding refusal
-  other-subframe h0 h1 h2 h = rw (eq-eqb (length (s .hkroot)) 540 h0, eq-eqb (length (s .mack)) 2160 h1, le-ltb 4095 (s .week) h2, lt-ltb 20159 (s .subframe) h)
+  -- with a satellite,
+  module _ (n : ℕ) {q : ℕ} (e : q ≡ refusal (recordChecks s)) where
+    pub not-seen : (q ≡ 0 → ⊥) → q ≡ refusal (viewChecks s n)
+    not-seen ne = stopped (recordChecks s) (svnChecks n) e ne
 
-  pub other-counts : length (s .hkroot) ≡ 540 → length (s .mack) ≡ 2160 → s .week ≤ 4095 → s .subframe ≤ 20159 → {b : Bool} → b ≡ small (s .counts) → not b ≡ true → 12 ≡ refusal (viewChecks s n)
-  unfolding refusal
-  other-counts h0 h1 h2 h3 e h = rw (eq-eqb (length (s .hkroot)) 540 h0, eq-eqb (length (s .mack)) 2160 h1, le-ltb 4095 (s .week) h2, le-ltb 20159 (s .subframe) h3, ← e, h)
+    pub seen : {r : ℕ} → q ≡ 0 → r ≡ refusal (svnChecks n) → r ≡ refusal (viewChecks s n)
+    seen z h = went-on (recordChecks s) (svnChecks n) tt e z h
 
-  pub satellite-0 : length (s .hkroot) ≡ 540 → length (s .mack) ≡ 2160 → s .week ≤ 4095 → s .subframe ≤ 20159 → {b : Bool} → b ≡ small (s .counts) → not b ≡ false → n < 1 → 2 ≡ refusal (viewChecks s n)
-  unfolding refusal
-  satellite-0 h0 h1 h2 h3 e4 h4 h = rw (eq-eqb (length (s .hkroot)) 540 h0, eq-eqb (length (s .mack)) 2160 h1, le-ltb 4095 (s .week) h2, le-ltb 20159 (s .subframe) h3, ← e4, h4, lt-ltb n 1 h)
-
-  pub satellite-high : length (s .hkroot) ≡ 540 → length (s .mack) ≡ 2160 → s .week ≤ 4095 → s .subframe ≤ 20159 → {b : Bool} → b ≡ small (s .counts) → not b ≡ false → 1 ≤ n → 36 < n → 2 ≡ refusal (viewChecks s n)
-  unfolding refusal
-  satellite-high h0 h1 h2 h3 e4 h4 h5 h = rw (eq-eqb (length (s .hkroot)) 540 h0, eq-eqb (length (s .mack)) 2160 h1, le-ltb 4095 (s .week) h2, le-ltb 20159 (s .subframe) h3, ← e4, h4, le-ltb n 1 h5, lt-ltb 36 n h)
-
-  pub seen : length (s .hkroot) ≡ 540 → length (s .mack) ≡ 2160 → s .week ≤ 4095 → s .subframe ≤ 20159 → {b : Bool} → b ≡ small (s .counts) → not b ≡ false → 1 ≤ n → n ≤ 36 → 0 ≡ refusal (viewChecks s n)
-  unfolding refusal
-  seen h0 h1 h2 h3 e4 h4 h5 h6 = rw (eq-eqb (length (s .hkroot)) 540 h0, eq-eqb (length (s .mack)) 2160 h1, le-ltb 4095 (s .week) h2, le-ltb 20159 (s .subframe) h3, ← e4, h4, le-ltb n 1 h5, le-ltb 36 n h6)
-
+-- with satellite, week and time, and of a page
 module _ (s : State) (p : Page) where
+  abbrev asked : List Check
+  asked = svnGstChecks (p .satellite) (p .week) (p .time)
+
+  module _ {q : ℕ} (e : q ≡ refusal (rangeChecks s)) where
+    pub not-asked : (q ≡ 0 → ⊥) → q ≡ refusal (askChecks s p)
+    not-asked ne = stopped (rangeChecks s) asked e ne
+
+    pub asked-then : {r : ℕ} → q ≡ 0 → r ≡ refusal asked → r ≡ refusal (askChecks s p)
+    asked-then z h = went-on (rangeChecks s) asked tt e z h
+
   pub other-page : (length (p .bytes) ≡ 5 → ⊥) → 1 ≡ refusal (feedChecks s p)
   unfolding refusal
   other-page ne = rw (ne-eqb (length (p .bytes)) 5 ne)
 
-  module _ (l : length (p .bytes) ≡ 5) {q : ℕ} (e : q ≡ refusal (viewChecks s (p .satellite))) where
-    pub not-seen : (q ≡ 0 → ⊥) → q ≡ refusal (feedChecks s p)
+  module _ (l : length (p .bytes) ≡ 5) {q : ℕ} (e : q ≡ refusal (recordChecks s)) where
+    pub not-taken : (q ≡ 0 → ⊥) → q ≡ refusal (feedChecks s p)
     unfolding refusal
-    not-seen ne = rw (eq-eqb (length (p .bytes)) 5 l) (stopped (viewChecks s (p .satellite)) (3 when ltb 4095 (p .week) ∷ 4 when ltb 604799 (p .time) ∷ []) e ne)
+    not-taken ne = rw (eq-eqb (length (p .bytes)) 5 l) (stopped (recordChecks s) asked e ne)
 
-    module _ (z : q ≡ 0) where
-      behind : {r : ℕ} → r ≡ refusal (3 when ltb 4095 (p .week) ∷ 4 when ltb 604799 (p .time) ∷ []) → r ≡ refusal (feedChecks s p)
-      unfolding refusal
-      behind h = rw (eq-eqb (length (p .bytes)) 5 l) (went-on (viewChecks s (p .satellite)) (3 when ltb 4095 (p .week) ∷ 4 when ltb 604799 (p .time) ∷ []) tt e z h)
-
-      pub week-high : 4095 < p .week → 3 ≡ refusal (feedChecks s p)
-      unfolding refusal
-      week-high h = behind (rw (lt-ltb 4095 (p .week) h))
-
-      pub time-high : p .week ≤ 4095 → 604799 < p .time → 4 ≡ refusal (feedChecks s p)
-      unfolding refusal
-      time-high g h = behind (rw (le-ltb 4095 (p .week) g, lt-ltb 604799 (p .time) h))
-
-      pub admitted : p .week ≤ 4095 → p .time ≤ 604799 → 0 ≡ refusal (feedChecks s p)
-      unfolding refusal
-      admitted g h = behind (rw (le-ltb 4095 (p .week) g, le-ltb 604799 (p .time) h))
+    pub admitted : {r : ℕ} → q ≡ 0 → r ≡ refusal asked → r ≡ refusal (feedChecks s p)
+    unfolding refusal
+    admitted z h = rw (eq-eqb (length (p .bytes)) 5 l) (went-on (recordChecks s) asked tt e z h)
 
 -- what holds of a satellite that may be asked for
 pub seen-satellite : (s : State) (n : ℕ) {q : ℕ} → q ≡ refusal (viewChecks s n) → q ≡ 0 → (1 ≤ n) × (n ≤ 36) × (length (s .hkroot) ≡ 540) × (length (s .mack) ≡ 2160)
@@ -116,12 +124,12 @@ fine s p e z =
 
 -- One satellite's count.
 module _ (n w : ℕ) where
-  pub count-high : 15 < n → _≡_ {A = WordStep} (record { next = 0; answer = refused 12 }) (takeWord n w)
+  pub count-high : 15 < n → _≡_ {A = WordStep} (record { next = n; answer = refused 12 }) (takeWord n w)
   unfolding takeWord
   count-high h = rw (lt-ltb 15 n h)
 
   module _ (h : n ≤ 15) where
-    pub word-high : 14 < w → _≡_ {A = WordStep} (record { next = 0; answer = refused 7 }) (takeWord n w)
+    pub word-high : 14 < w → _≡_ {A = WordStep} (record { next = n; answer = refused 7 }) (takeWord n w)
     unfolding takeWord
     word-high g = rw (le-ltb 15 n h, lt-ltb 14 w g)
 
@@ -140,9 +148,13 @@ module _ (n w : ℕ) (x : WordTaken) (e : TakeWord n w x) (h : w < 15) where
   unfolding takeWord
   took-next u = go (ltb 15 n) (ltb 14 w) (eqb w n) refl (ap (λ (y : WordStep). y .answer) e) (ap (λ (y : WordStep). y .next) e)
     where
-      go : (a b c : Bool) → eqb w n ≡ c
-          → meaning-word (x .answer) ≡ cond {A = WordStep} a (record { next = 0; answer = refused 12 }) (cond b (record { next = 0; answer = refused 7 }) (cond c (record { next = n + 1; answer = gives [] }) (record { next = n; answer = nothing }))) .answer
-          → x .next .words ≡ cond {A = WordStep} a (record { next = 0; answer = refused 12 }) (cond b (record { next = 0; answer = refused 7 }) (cond c (record { next = n + 1; answer = gives [] }) (record { next = n; answer = nothing }))) .next
+      step : Bool → Bool → Bool → WordStep
+      step a b c =
+          cond a (record { next = n; answer = refused 12 })
+          (cond b (record { next = n; answer = refused 7 })
+          (cond c (record { next = n + 1; answer = gives [] }) (record { next = n; answer = nothing })))
+
+      go : (a b c : Bool) → eqb w n ≡ c → meaning-word (x .answer) ≡ step a b c .answer → x .next .words ≡ step a b c .next
           → (c ≡ true) × (x .next .words ≡ w + 1)
       go false false true q f g = (refl, omega (arith, g, eqb-true w n q))
       go false false false q f g = let f : gives [] ≡ nothing = rw u at f in let z : _≡_ {A = ℕ} 0 1 = cc in absurd (omega arith)
@@ -273,6 +285,49 @@ module _ (week subframe : ℕ) (counts h m : List ℕ) (e : Entry) (bytes : List
 pub fed-whole : {s : State} {p : Page} {r : PageTaken} {cs h m : List ℕ} {a : Answer} → PageFed s p r cs h m → a ≡ answerOf r (p .week) (subframeOf (p .time))
     → _≡_ {A = Fed} (record { state = stateOf (p .week) (subframeOf (p .time)) cs h m; answer = a }) (feed s p)
 fed-whole {s} {p} {r} {cs} {h} {m} f e = ap (λ (a : Answer). record { state = stateOf (p .week) (subframeOf (p .time)) cs h m; answer = a }) e ∙ f .fed
+
+-- Whether a page is used, asked of the record.
+module _ (s : State) (p : Page) {q : ℕ} (e : q ≡ refusal (askChecks s p)) where
+  pub ask-refused : (q ≡ 0 → ⊥) → refused q ≡ usedAnswer s p
+  unfolding usedAnswer
+  ask-refused ne = rw (← e, ne-eqb q 0 ne)
+
+  module _ (z : q ≡ 0) {b : Bool} (u : b ≡ isUsed s p) where
+    pub ask-used : b ≡ true → gives [] ≡ usedAnswer s p
+    unfolding usedAnswer
+    ask-used h = rw (← e, z, ← u, h)
+
+    pub ask-unused : b ≡ false → nothing ≡ usedAnswer s p
+    unfolding usedAnswer
+    ask-unused h = rw (← e, z, ← u, h)
+
+pub asked-is : (s : State) (p : Page) → refusal (askChecks s p) ≡ 0 → (1 ≤ p .satellite) × (p .satellite ≤ 36) × (p .time ≤ 604799)
+asked-is s p z =
+    let f = none-fails (askChecks s p) tt z in
+    (ltb-false (p .satellite) 1 (f .1 .1 .1 .0), ltb-false 36 (p .satellite) (f .1 .1 .1 .1 .0), ltb-false 604799 (p .time) (f .1 .1 .1 .1 .1 .1 .0))
+
+-- a page's word against the count of its satellite, which is 0 after a change
+module _ (s : State) (p : Page) (z : refusal (askChecks s p) ≡ 0) where
+  abbrev fresh : State
+  fresh = record { week = p .week; subframe = subframeOf (p .time); counts = replicate 36 0; hkroot = s .hkroot; mack = s .mack }
+
+  none-yet : fresh ≡ changed s (p .week) (subframeOf (p .time)) → eqb (wordOf (p .time)) 0 ≡ isUsed s p
+  unfolding isUsed
+  none-yet e =
+      ap (eqb (wordOf (p .time))) (sym (getD-replicate 36 (p .satellite - 1) 0 0 (omega (arith, asked-is s p z .0, asked-is s p z .1))))
+      ∙ ap (λ (t : State). eqb (wordOf (p .time)) (getD (t .counts) (p .satellite - 1) 0)) e
+
+  pub used-other-week : (s .week ≡ p .week → ⊥) → eqb (wordOf (p .time)) 0 ≡ isUsed s p
+  used-other-week ne = none-yet (other-week-taken s (p .week) (subframeOf (p .time)) ne)
+
+  module _ (e : s .week ≡ p .week) where
+    pub used-other-subframe : (s .subframe ≡ subframeOf (p .time) → ⊥) → eqb (wordOf (p .time)) 0 ≡ isUsed s p
+    used-other-subframe ne = none-yet (other-subframe-taken s (p .week) (subframeOf (p .time)) e ne)
+
+    pub used-same : s .subframe ≡ subframeOf (p .time) → eqb (wordOf (p .time)) (getD (s .counts) (p .satellite - 1) 0) ≡ isUsed s p
+    unfolding isUsed
+    used-same f =
+        ap (λ (t : State). eqb (wordOf (p .time)) (getD (t .counts) (p .satellite - 1) 0)) (unchanged s (p .week) (subframeOf (p .time)) e f)
 
 -- The view.
 module _ (s : State) (size n : ℕ) {q : ℕ} (e : q ≡ refusal (viewChecks s n)) where

@@ -9,18 +9,19 @@ use mathlib.Core.List.{List, [], _∷_, _++_}
 use mathlib.Core.Bool.{Bool, true, false, cond, not, _&&_}
 use lib.ListN.{length, getD, take, drop, replicate, length-drop, getD-replicate}
 use lib.Seq.{length-take-le, getD-take, getD-drop, drop-drop, take-add}
-use lib.Dec.{leb, ltb, eqb}
+use lib.Dec.{leb, eqb}
 use borrow.Author.Tests.{le-leb, le-ltb, ne-eqb, eqb-true, eqb-false, ltb-false, leb-true, leb-false, not-false}
-use Rattle.layouts.specs.Answer.{Answer, refused, nothing, gives, shown, Check, _when_, refusal}
+use Rattle.layouts.specs.Answer.{Answer, refused, nothing, gives, shown, refusal}
+use Rattle.layouts.specs.Gst.{svnChecks}
 use Rattle.layouts.proofs.Answers.{none-fails}
 use Rattle.subframes.specs.Subframe.{State, new, Page, subframeOf, wordOf, Fed, small, viewChecks, feedChecks, changed, offered, feed, view}
 use Rattle.runs.specs.Runs.{goesOn, runFrom}
-use Rattle.subframes.specs.SubframeRecovery.{callChecks, isAdmitted, sameSubframe, before, grown, run, after, hasWord, noPage, Words, hkrootOf, mackOf, message, Built, ComesOut, Alike, Viewed, SubframesRecover}
+use Rattle.subframes.specs.SubframeRecovery.{callChecks, isAdmitted, sameSubframe, before, grown, run, after, hasWord, noPage, Words, hkrootOf, mackOf, message, Built, ComesOut, Alike, Viewed, SubframesRecover, SubframesShow}
 use Rattle.runs.proofs.Basics.{and-true, part-is}
 use Rattle.subframes.proofs.Pages.{feed-refused, feed-admitted}
 use Rattle.subframes.proofs.SubframeSound.{Sound, sound-passes}
 use Rattle.runs.proofs.Rising.{taken-chain, shorter, earliest, reaches, chosen-kept}
-use Rattle.runs.proofs.Runs.{goes-on, before-twice, run-before, run-from, kept-by-all}
+use Rattle.runs.proofs.Runs.{goes-on, before-twice, run-before, run-from, kept-by-all, firstFrom, as-the-first}
 use Rattle.subframes.proofs.SubframeRun.{words, pageOf, words-few, words-up, Of, Core, Step, offered-step}
 
 -- The messages of a satellite, from the pages that it took.
@@ -76,11 +77,8 @@ module _ (n : ℕ) (s : State) (r : List Page) (o : Of n s r) (some : 1 ≤ n) (
         }
 
 -- What is refused at a record that is not.
-abbrev satelliteChecks : ℕ → List Check
-satelliteChecks n = 2 when ltb n 1 ∷ 2 when ltb 36 n ∷ []
-
-view-number : (s : State) → Sound s → (n : ℕ) → refusal (viewChecks s n) ≡ refusal (satelliteChecks n)
-view-number s l n = sound-passes s l (satelliteChecks n)
+view-number : (s : State) → Sound s → (n : ℕ) → refusal (viewChecks s n) ≡ refusal (svnChecks n)
+view-number s l n = sound-passes s l (svnChecks n)
 
 feed-number : (s : State) → Sound s → (p : Page) → refusal (feedChecks s p) ≡ refusal (callChecks p)
 unfolding refusal
@@ -107,14 +105,14 @@ admitted-is p e =
 
 -- What the viewer shows, said of the run alone.
 abbrev viewOf : List Page → ℕ → ℕ → Answer
-viewOf r size n = cond (eqb (refusal (satelliteChecks n)) 0) (cond (leb 15 (words n r)) (gives (size * (n - 1) ∷ size ∷ [])) nothing) (refused (refusal (satelliteChecks n)))
+viewOf r size n = cond (eqb (refusal (svnChecks n)) 0) (cond (leb 15 (words n r)) (gives (size * (n - 1) ∷ size ∷ [])) nothing) (refused (refusal (svnChecks n)))
 
-seen : (n : ℕ) → eqb (refusal (satelliteChecks n)) 0 ≡ true → (1 ≤ n) × (n ≤ 36)
+seen : (n : ℕ) → eqb (refusal (svnChecks n)) 0 ≡ true → (1 ≤ n) × (n ≤ 36)
 seen n e =
-    let f = none-fails (satelliteChecks n) tt (eqb-true (refusal (satelliteChecks n)) 0 e) in
+    let f = none-fails (svnChecks n) tt (eqb-true (refusal (svnChecks n)) 0 e) in
     (ltb-false n 1 (f .0), ltb-false 36 n (f .1 .0))
 
-in-range : (n : ℕ) → 1 ≤ n → n ≤ 36 → eqb (refusal (satelliteChecks n)) 0 ≡ true
+in-range : (n : ℕ) → 1 ≤ n → n ≤ 36 → eqb (refusal (svnChecks n)) 0 ≡ true
 unfolding refusal
 in-range n l u = rw (le-ltb n 1 l, le-ltb 36 n u)
 
@@ -132,32 +130,32 @@ eqb-top m l = go (ℕ-discrete m 15)
 module _ (week subframe : ℕ) (s : State) (r : List Page) (k : Core week subframe s r) (l : Sound s) where
   core-view : (size n : ℕ) → view s size n ≡ viewOf r size n
   unfolding view
-  core-view size n = rw (view-number s l n) (go (eqb (refusal (satelliteChecks n)) 0) refl)
+  core-view size n = rw (view-number s l n) (go (eqb (refusal (svnChecks n)) 0) refl)
     where
-      go : (b : Bool) → eqb (refusal (satelliteChecks n)) 0 ≡ b
-          → cond b (cond (eqb (getD (s .counts) (n - 1) 0) 15) (gives (size * (n - 1) ∷ size ∷ [])) nothing) (refused (refusal (satelliteChecks n)))
-          ≡ cond b (cond (leb 15 (words n r)) (gives (size * (n - 1) ∷ size ∷ [])) nothing) (refused (refusal (satelliteChecks n)))
+      go : (b : Bool) → eqb (refusal (svnChecks n)) 0 ≡ b
+          → cond b (cond (eqb (getD (s .counts) (n - 1) 0) 15) (gives (size * (n - 1) ∷ size ∷ [])) nothing) (refused (refusal (svnChecks n)))
+          ≡ cond b (cond (leb 15 (words n r)) (gives (size * (n - 1) ∷ size ∷ [])) nothing) (refused (refusal (svnChecks n)))
       go true e =
           let h = seen n e in
           ap (λ (x : Bool). cond x (gives (size * (n - 1) ∷ size ∷ [])) nothing) (ap (λ (m : ℕ). eqb m 15) (k .of n (h .0) (h .1) .count-is) ∙ eqb-top (words n r) (words-few n r))
       go false e = refl
 
-  core-hkroot : (n : ℕ) → shown (s .hkroot) (view s 15 n) ≡ cond (eqb (refusal (satelliteChecks n)) 0 && leb 15 (words n r)) (hkrootOf (pageOf n r) 15) []
+  core-hkroot : (n : ℕ) → shown (s .hkroot) (view s 15 n) ≡ cond (eqb (refusal (svnChecks n)) 0 && leb 15 (words n r)) (hkrootOf (pageOf n r) 15) []
   unfolding shown
-  core-hkroot n = ap (shown (s .hkroot)) (core-view 15 n) ∙ go (eqb (refusal (satelliteChecks n)) 0) refl (leb 15 (words n r)) refl
+  core-hkroot n = ap (shown (s .hkroot)) (core-view 15 n) ∙ go (eqb (refusal (svnChecks n)) 0) refl (leb 15 (words n r)) refl
     where
-      go : (a : Bool) → eqb (refusal (satelliteChecks n)) 0 ≡ a → (b : Bool) → leb 15 (words n r) ≡ b
-          → shown (s .hkroot) (cond a (cond b (gives (15 * (n - 1) ∷ 15 ∷ [])) nothing) (refused (refusal (satelliteChecks n)))) ≡ cond (a && b) (hkrootOf (pageOf n r) 15) []
+      go : (a : Bool) → eqb (refusal (svnChecks n)) 0 ≡ a → (b : Bool) → leb 15 (words n r) ≡ b
+          → shown (s .hkroot) (cond a (cond b (gives (15 * (n - 1) ∷ 15 ∷ [])) nothing) (refused (refusal (svnChecks n)))) ≡ cond (a && b) (hkrootOf (pageOf n r) 15) []
       go true e true f = let h = seen n e in hkroot-message n s r (k .of n (h .0) (h .1)) (h .0) (h .1) (k .h540) (k .m2160) (leb-true 15 (words n r) f)
       go true e false f = refl
       go false e b f = refl
 
-  core-mack : (n : ℕ) → shown (s .mack) (view s 60 n) ≡ cond (eqb (refusal (satelliteChecks n)) 0 && leb 15 (words n r)) (mackOf (pageOf n r) 15) []
+  core-mack : (n : ℕ) → shown (s .mack) (view s 60 n) ≡ cond (eqb (refusal (svnChecks n)) 0 && leb 15 (words n r)) (mackOf (pageOf n r) 15) []
   unfolding shown
-  core-mack n = ap (shown (s .mack)) (core-view 60 n) ∙ go (eqb (refusal (satelliteChecks n)) 0) refl (leb 15 (words n r)) refl
+  core-mack n = ap (shown (s .mack)) (core-view 60 n) ∙ go (eqb (refusal (svnChecks n)) 0) refl (leb 15 (words n r)) refl
     where
-      go : (a : Bool) → eqb (refusal (satelliteChecks n)) 0 ≡ a → (b : Bool) → leb 15 (words n r) ≡ b
-          → shown (s .mack) (cond a (cond b (gives (60 * (n - 1) ∷ 60 ∷ [])) nothing) (refused (refusal (satelliteChecks n)))) ≡ cond (a && b) (mackOf (pageOf n r) 15) []
+      go : (a : Bool) → eqb (refusal (svnChecks n)) 0 ≡ a → (b : Bool) → leb 15 (words n r) ≡ b
+          → shown (s .mack) (cond a (cond b (gives (60 * (n - 1) ∷ 60 ∷ [])) nothing) (refused (refusal (svnChecks n)))) ≡ cond (a && b) (mackOf (pageOf n r) 15) []
       go true e true f = let h = seen n e in mack-message n s r (k .of n (h .0) (h .1)) (h .0) (h .1) (k .h540) (k .m2160) (leb-true 15 (words n r) f)
       go true e false f = refl
       go false e b f = refl
@@ -248,6 +246,10 @@ same-as-first x c d e =
     ap (λ (k : ℕ). eqb k (d .week) && eqb (subframeOf (x .time)) (subframeOf (d .time))) (eqb-true (x .week) (c .week) (q .0))
     ∙ ap (λ (k : ℕ). eqb (c .week) (d .week) && eqb k (subframeOf (d .time))) (eqb-true (subframeOf (x .time)) (subframeOf (c .time)) (q .1))
 
+-- a run cut by its first page instead of the one before is the same
+pub run-by-first : (ps : List Page) → run ps ≡ firstFrom isAdmitted sameSubframe [] ps
+run-by-first ps = as-the-first isAdmitted sameSubframe same-as-first ps
+
 -- A call, at a run.
 module _ (s : State) (r : List Page) (w : Holds s r) (p : Page) where
   refused-is : isAdmitted p ≡ false → feed s p ≡ record { state = s; answer = refused (refusal (callChecks p)) }
@@ -280,7 +282,7 @@ module _ (s : State) (r : List Page) (w : Holds s r) (p : Page) where
         record {
           sound = fed-sound;
           at-run = λ q.
-              let on : goesOn isAdmitted sameSubframe (grown r p) q ≡ sameSubframe p q = ap (λ (l : List Page). goesOn isAdmitted sameSubframe l q) grown-is ∙ goes-on isAdmitted sameSubframe same-as-first r p q in
+              let on : goesOn isAdmitted sameSubframe (grown r p) q ≡ sameSubframe p q = ap (λ (l : List Page). goesOn isAdmitted sameSubframe l q) grown-is ∙ goes-on isAdmitted sameSubframe (before r p) p q in
               subst⁻¹ (λ (b : Bool). Core (q .week) (subframeOf (q .time)) (changed (feed s p .state) (q .week) (subframeOf (q .time))) (cond b (grown r p) [])) on
               (changed-core (p .week) (subframeOf (p .time)) (feed s p .state) (grown r p) fed-core (q .week) (subframeOf (q .time)));
         }
@@ -301,7 +303,7 @@ after-holds : (s : State) (r ps : List Page) → Holds s r → Holds (after s ps
 after-holds s r ps h = kept-by-all isAdmitted sameSubframe (λ (t : State) (p : Page). feed t p .state) Holds call-holds s r ps h
 
 -- Two collectors that are at the same run.
-same-run : (s t : State) (r q : List Page) (p : Page) → Holds s r → Holds t q → isAdmitted p ≡ true → before r p ≡ before q p → Alike s t p
+same-run : (s t : State) (r q : List Page) (p : Page) → Holds s r → Holds t q → isAdmitted p ≡ true → before r p ≡ before q p → Alike (feed s p) (feed t p)
 same-run s t r q p a b e h =
     let g : grown r p ≡ grown q p = rw e (ap (λ (l : List Page). l ++ (p ∷ [])) h) in
     let ks = fed-core s r a p e in
@@ -316,14 +318,14 @@ same-run s t r q p a b e h =
           ∙ ap (λ (l : List Page). viewOf l size n) g
           ∙ sym (core-view (p .week) (subframeOf (p .time)) (feed t p .state) (grown q p) kt lt size n);
       hkroot-is = λ n. core-hkroot (p .week) (subframeOf (p .time)) (feed s p .state) (grown r p) ks ls n
-          ∙ ap (λ (l : List Page). cond (eqb (refusal (satelliteChecks n)) 0 && leb 15 (words n l)) (hkrootOf (pageOf n l) 15) []) g
+          ∙ ap (λ (l : List Page). cond (eqb (refusal (svnChecks n)) 0 && leb 15 (words n l)) (hkrootOf (pageOf n l) 15) []) g
           ∙ sym (core-hkroot (p .week) (subframeOf (p .time)) (feed t p .state) (grown q p) kt lt n);
       mack-is = λ n. core-mack (p .week) (subframeOf (p .time)) (feed s p .state) (grown r p) ks ls n
-          ∙ ap (λ (l : List Page). cond (eqb (refusal (satelliteChecks n)) 0 && leb 15 (words n l)) (mackOf (pageOf n l) 15) []) g
+          ∙ ap (λ (l : List Page). cond (eqb (refusal (svnChecks n)) 0 && leb 15 (words n l)) (mackOf (pageOf n l) 15) []) g
           ∙ sym (core-mack (p .week) (subframeOf (p .time)) (feed t p .state) (grown q p) kt lt n);
     }
 
-like-new-at : (s : State) (r : List Page) → Holds s r → run r ≡ r → (p : Page) (h m : List ℕ) → length h ≡ 540 → length m ≡ 2160 → isAdmitted p ≡ true → Alike s (after (new h m) (before r p)) p
+like-new-at : (s : State) (r : List Page) → Holds s r → run r ≡ r → (p : Page) (h m : List ℕ) → length h ≡ 540 → length m ≡ 2160 → isAdmitted p ≡ true → Alike (feed s p) (feed (after (new h m) (before r p)) p)
 like-new-at s r w own p h m lh lm e =
     same-run s (after (new h m) (before r p)) r (run (before r p)) p w (after-holds (new h m) [] (before r p) (new-holds h m lh lm)) e
     (sym (ap (λ (q : List Page). before q p) (run-before isAdmitted sameSubframe r p own) ∙ before-twice isAdmitted sameSubframe r p))
@@ -421,3 +423,23 @@ subframes-recover h m lh lm ps p =
       until-changed = λ on n some few all. stays s (run ps) w p on n some few all;
       refused-call = refused-is s (run ps) w p;
     }
+
+-- What is shown between the calls.
+record Seen (s : State) (r : List Page) : Type 0 where
+  holds : Holds s r
+  sees : (n : ℕ) → 1 ≤ n → n ≤ 36 → Viewed s r n
+
+seen-call : (s : State) (r : List Page) → Seen s r → (p : Page) → Seen (feed s p .state) (grown r p)
+seen-call s r w p = record { holds = call-holds s r (w .holds) p; sees = λ n some few. go n some few (isAdmitted p) refl }
+  where
+    go : (n : ℕ) → 1 ≤ n → n ≤ 36 → (b : Bool) → isAdmitted p ≡ b → Viewed (feed s p .state) (grown r p) n
+    go n some few true e = core-viewed (p .week) (subframeOf (p .time)) (feed s p .state) (grown r p) (fed-core s r (w .holds) p e) (fed-sound s r (w .holds) p e) n some few
+    go n some few false e =
+        let same : grown r p ≡ r = rw e in
+        subst⁻¹ (λ (l : List Page). Viewed (feed s p .state) l n) same (subst⁻¹ (λ (f : Fed). Viewed (f .state) r n) (refused-is s r (w .holds) p e) (w .sees n some few))
+
+pub subframes-show : SubframesShow
+subframes-show h m lh lm ps n some few =
+    let k : Core 0 0 (new h m) [] = fresh-core 0 0 h m lh lm in
+    let first : Seen (new h m) [] = record { holds = new-holds h m lh lm; sees = core-viewed 0 0 (new h m) [] k (core-sound 0 0 (new h m) [] k (omega arith) (omega arith)) } in
+    kept-by-all isAdmitted sameSubframe (λ (t : State) (p : Page). feed t p .state) Seen seen-call (new h m) [] ps first .sees n some few

@@ -4,8 +4,10 @@ use mathlib.Core.Path.{_≡_, refl, sym, ap, _∙_}
 use mathlib.Core.List.{List, [], _∷_}
 use Prim.Native.Nat.{ℕ}
 use Rattle.layouts.specs.Answer.{Answer, refused, nothing, gives, Copied}
+use Rattle.layouts.specs.Agree.{Agree, AgreeWithTwo}
 use Rattle.subframes.specs.Subframe.{State, Page, WordStep, Fed}
-use Rattle.subframes.specs.SubframePromises.{outcome, meaning-subframe, meaning-word, meaning-shown, NewSubframe, TakeWord, FeedSubframe, ViewSubframeShown, ViewSubframe, HkrootMessageRead}
+use Rattle.subframes.specs.SubframePromises.{outcome, meaning-subframe, meaning-word, meaning-shown}
+use Rattle.subframes.specs.SubframePromises.{NewSubframe, TakeWord, IsUsed, FeedSubframe, ViewSubframeShown, ViewSubframe, HkrootMessageRead}
 use Rattle.subframes.specs.declared.subframe.CollectSubframe.{CollectSubframe}
 use Rattle.subframes.specs.declared.subframe.SubframeAnswer.{SubframeAnswer}
 use Rattle.subframes.specs.declared.subframe.SubframeAnswer.the-variants.{Refused, Nothing, Complete}
@@ -45,25 +47,27 @@ undo-word Used = refl
 abbrev pub back-state : State → CollectSubframe
 back-state s = record { week = s .week; subframe = s .subframe; counts = s .counts }
 
-pub new-subframe : (r s : CollectSubframe) → NewSubframe r → NewSubframe s → r ≡ s
+pub new-subframe : Agree NewSubframe
 new-subframe r s p q = ap back-state (p ∙ sym q)
 
 abbrev back-taken : WordStep → WordTaken
 back-taken f = record { next = record { words = f .next }; answer = back-word (f .answer) }
 
-pub take-word : (n w : ℕ) (r s : WordTaken) → TakeWord n w r → TakeWord n w s → r ≡ s
+pub take-word : (n w : ℕ) → Agree (TakeWord n w)
 take-word n w r s p q = whole r ∙ ap back-taken (p ∙ sym q) ∙ sym (whole s)
   where
     whole : (f : WordTaken) → _≡_ {A = WordTaken} f (record { next = f .next; answer = back-word (meaning-word (f .answer)) })
     whole f = rw (undo-word (f .answer))
 
+pub is-used : (c : CollectSubframe) (satellite week time : ℕ) → Agree (IsUsed c satellite week time)
+is-used c satellite week time r s p q = sym (undo-word r) ∙ ap back-word (p ∙ sym q) ∙ undo-word s
+
 abbrev back-fed : Fed → SubframeFed
 back-fed f = record { collector = back-state (f .state); answer = back-subframe (f .answer) }
 
-pub feed-subframe : (c : CollectSubframe) (h m : List ℕ) (page : Page) (r s : SubframeFed) (x y x′ y′ : List ℕ) → FeedSubframe c h m page r x y → FeedSubframe c h m page s x′ y′
-    → (r ≡ s) × (x ≡ x′) × (y ≡ y′)
+pub feed-subframe : (c : CollectSubframe) (h m : List ℕ) (page : Page) → AgreeWithTwo (FeedSubframe c h m page)
 feed-subframe c h m page r s x y x′ y′ p q =
-    let e : outcome r x y ≡ outcome s x′ y′ = p ∙ sym q in
+    let e : outcome r x x′ ≡ outcome s y y′ = p ∙ sym q in
     (whole r ∙ ap back-fed e ∙ sym (whole s), ap (λ (f : Fed). f .state .hkroot) e, ap (λ (f : Fed). f .state .mack) e)
   where
     whole : (f : SubframeFed) → _≡_ {A = SubframeFed} f (record { collector = f .collector; answer = back-subframe (meaning-subframe (f .answer)) })
@@ -81,16 +85,16 @@ undo-shown (Shown f n) = refl
 undo-shown NothingShown = refl
 undo-shown (NotShown n) = refl
 
-pub view-subframe-shown : (c : CollectSubframe) (h m : List ℕ) (k : Message) (n : ℕ) (r s : SubframeShown) → ViewSubframeShown c h m k n r → ViewSubframeShown c h m k n s → r ≡ s
+pub view-subframe-shown : (c : CollectSubframe) (h m : List ℕ) (k : Message) (n : ℕ) → Agree (ViewSubframeShown c h m k n)
 view-subframe-shown c h m k n r s p q = sym (undo-shown r) ∙ ap back-shown (p ∙ sym q) ∙ undo-shown s
 
-pub view-subframe : (c : CollectSubframe) (h m : List ℕ) (k : Message) (n : ℕ) (r s : List ℕ) → ViewSubframe c h m k n r → ViewSubframe c h m k n s → r ≡ s
+pub view-subframe : (c : CollectSubframe) (h m : List ℕ) (k : Message) (n : ℕ) → Agree (ViewSubframe c h m k n)
 view-subframe c h m k n r s p q = p ∙ sym q
 
 abbrev back-message : Copied → HkrootMessage
 back-message x = record { answer = back-shown (x .answer); bytes = x .bytes }
 
-pub hkroot-message : (c : CollectSubframe) (h m : List ℕ) (n : ℕ) (r s : HkrootMessage) → HkrootMessageRead c h m n r → HkrootMessageRead c h m n s → r ≡ s
+pub hkroot-message : (c : CollectSubframe) (h m : List ℕ) (n : ℕ) → Agree (HkrootMessageRead c h m n)
 hkroot-message c h m n r s p q = whole r ∙ ap back-message (p ∙ sym q) ∙ sym (whole s)
   where
     whole : (f : HkrootMessage) → _≡_ {A = HkrootMessage} f (record { answer = back-shown (meaning-shown (f .answer)); bytes = f .bytes })

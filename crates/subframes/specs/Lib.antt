@@ -1,8 +1,10 @@
-pub mod PageInner
+pub mod Agreed
 pub mod Subframe
-pub mod SubframeInner
+pub mod SubframeHistory
 pub mod SubframePromises
 pub mod SubframeRecovery
+pub mod SubframeUsed
 pub mod Trace
-pub mod TraceInner
 pub mod TracePromises
+pub mod TraceWalk
+pub mod inner

@@ -6,6 +6,7 @@ use mathlib.Core.Bool.{Bool, true, cond, not, _&&_}
 use lib.ListN.{length, getD, set, replicate}
 use lib.Dec.{leb, ltb, eqb}
 use Rattle.layouts.specs.Answer.{Answer, refused, nothing, gives, Check, _when_, refusal}
+use Rattle.layouts.specs.Gst.{svnChecks, svnGstChecks}
 
 -- "The record holds week, subframe and 36 word counts"; beside it the 540 HKROOT bytes (36 by 15) and the 2,160 MACK bytes (36 by 60) that are lent
 pub record State : Type 0 where
@@ -38,34 +39,40 @@ unfoldable pub small : List ℕ → Bool
 small [] = true
 small (n ∷ ns) = leb n 15 && small ns
 
--- "week at most 4,095, subframe at most 20,159": what is refused of the lent bytes, 1, and of the record, 12
+-- "week at most 4,095, subframe at most 20,159": what is refused of the record, 12
+abbrev pub rangeChecks : State → List Check
+rangeChecks s = 12 when ltb 4095 (s .week) ∷ 12 when ltb 20159 (s .subframe) ∷ 12 when not (small (s .counts)) ∷ []
+
+-- before it what is refused of the lent bytes, 1
 abbrev pub recordChecks : State → List Check
-recordChecks s =
-    1 when not (eqb (length (s .hkroot)) 540) ∷
-    1 when not (eqb (length (s .mack)) 2160) ∷
-    12 when ltb 4095 (s .week) ∷
-    12 when ltb 20159 (s .subframe) ∷
-    12 when not (small (s .counts)) ∷
-    []
+recordChecks s = 1 when not (eqb (length (s .hkroot)) 540) ∷ 1 when not (eqb (length (s .mack)) 2160) ∷ rangeChecks s
 
 -- then of a satellite, 2
 abbrev pub viewChecks : State → ℕ → List Check
-viewChecks s satellite = recordChecks s ++ (2 when ltb satellite 1 ∷ 2 when ltb 36 satellite ∷ [])
+viewChecks s satellite = recordChecks s ++ svnChecks satellite
 
--- and of a page: 1 before them, 3 and 4 after them
+-- of a page whose bytes are not looked at: satellite, week and time, 2, 3, 4
+abbrev pub askChecks : State → Page → List Check
+askChecks s p = rangeChecks s ++ svnGstChecks (p .satellite) (p .week) (p .time)
+
+-- and of a page: 1 before them
 abbrev pub feedChecks : State → Page → List Check
-feedChecks s p = 1 when not (eqb (length (p .bytes)) 5) ∷ viewChecks s (p .satellite) ++ (3 when ltb 4095 (p .week) ∷ 4 when ltb 604799 (p .time) ∷ [])
+feedChecks s p = 1 when not (eqb (length (p .bytes)) 5) ∷ recordChecks s ++ svnGstChecks (p .satellite) (p .week) (p .time)
 
--- "One satellite's count takes a word number and hands back its next state.": a count above 15 is 12, a word above 14 is 7, with next count 0 and not used
+-- "If the word differs from the satellite's count: nothing. Otherwise its bytes go to that place and the count rises": whether a count takes a word
+abbrev pub takes : ℕ → ℕ → Bool
+takes count word = eqb word count
+
+-- "One satellite's count takes a word number and hands back its next state.": a count above 15 is 12, a word above 14 is 7, and the count stays as it was
 pub record WordStep : Type 0 where
   pub next : ℕ
   pub answer : Answer
 
 unfoldable pub takeWord : ℕ → ℕ → WordStep
 takeWord count word =
-    cond (ltb 15 count) (record { next = 0; answer = refused 12 })
-    (cond (ltb 14 word) (record { next = 0; answer = refused 7 })
-    (cond (eqb word count) (record { next = count + 1; answer = gives [] }) (record { next = count; answer = nothing })))
+    cond (ltb 15 count) (record { next = count; answer = refused 12 })
+    (cond (ltb 14 word) (record { next = count; answer = refused 7 })
+    (cond (takes count word) (record { next = count + 1; answer = gives [] }) (record { next = count; answer = nothing })))
 
 -- "If its week or subframe differs from the record's, both are taken over and all 36 counts become 0, whether or not the page is then used."
 unfoldable pub changed : State → ℕ → ℕ → State
@@ -103,11 +110,11 @@ used s bytes i word =
 
 -- "If the word differs from the satellite's count: nothing."
 unfoldable pub offered : State → List ℕ → ℕ → ℕ → Fed
-offered s bytes i word = cond (eqb word (getD (s .counts) i 0)) (used s bytes i word) (record { state = s; answer = nothing })
+offered s bytes i word = cond (takes (getD (s .counts) i 0) word) (used s bytes i word) (record { state = s; answer = nothing })
 
--- "If the word differs from the satellite's count: nothing. Otherwise its bytes go to that place and the count rises": whether an admitted page is used
+-- whether an admitted page is used
 unfoldable pub isUsed : State → Page → Bool
-isUsed s p = eqb (wordOf (p .time)) (getD (changed s (p .week) (subframeOf (p .time)) .counts) (p .satellite - 1) 0)
+isUsed s p = takes (getD (changed s (p .week) (subframeOf (p .time)) .counts) (p .satellite - 1) 0) (wordOf (p .time))
 
 -- "An admitted page is one not refused."
 unfoldable pub feed : State → Page → Fed
@@ -116,7 +123,13 @@ feed s p =
     (offered (changed s (p .week) (subframeOf (p .time))) (p .bytes) (p .satellite - 1) (wordOf (p .time)))
     (record { state = s; answer = refused (refusal (feedChecks s p)) })
 
--- "A viewer, given the record, told HKROOT or MACK and a satellite whose count is 15, returns a part": where it lies in a buffer of messages of that size. "At a lower count the part is empty"
+-- whether a page would be used, asked of the record alone: its bytes and the lent ones do not matter
+unfoldable pub usedAnswer : State → Page → Answer
+usedAnswer s p =
+    cond (eqb (refusal (askChecks s p)) 0) (cond (isUsed s p) (gives []) nothing) (refused (refusal (askChecks s p)))
+
+-- "A viewer, given the record, told HKROOT or MACK and a satellite whose count is 15, returns a part": where it lies in a buffer of messages of that size.
+-- "At a lower count the part is empty"
 unfoldable pub view : State → ℕ → ℕ → Answer
 view s size satellite =
     cond (eqb (refusal (viewChecks s satellite)) 0)

@@ -4,7 +4,7 @@ use Prim.Native.Nat.{ℕ}
 use mathlib.Core.List.{List, [], _∷_}
 use mathlib.Core.Path.{_≡_}
 use Rattle.layouts.specs.Answer.{Answer, refused, nothing, gives, shown, Copied, copied}
-use Rattle.subframes.specs.Subframe.{State, new, Page, WordStep, takeWord, Fed, feed, view}
+use Rattle.subframes.specs.Subframe.{State, new, Page, WordStep, takeWord, Fed, feed, usedAnswer, view}
 use Rattle.subframes.specs.declared.subframe.CollectSubframe.{CollectSubframe}
 use Rattle.subframes.specs.declared.subframe.SubframeAnswer.{SubframeAnswer}
 use Rattle.subframes.specs.declared.subframe.SubframeAnswer.the-variants.{Refused, Nothing, Complete}
@@ -21,6 +21,10 @@ use Rattle.subframes.specs.declared.subframe.WordTaken.{WordTaken}
 -- the record with the lent bytes beside it
 abbrev pub state : CollectSubframe → List ℕ → List ℕ → State
 state c hkroot mack = record { week = c .week; subframe = c .subframe; counts = c .counts; hkroot = hkroot; mack = mack }
+
+-- a call with a page, from what it is handed
+abbrev pub call : List ℕ → ℕ → ℕ → ℕ → Page
+call bytes satellite week time = record { bytes = bytes; satellite = satellite; week = week; time = time }
 
 abbrev pub meaning-subframe : SubframeAnswer → Answer
 meaning-subframe (Refused n) = refused n
@@ -45,6 +49,10 @@ TakeWord count word r = _≡_ {A = WordStep} (record { next = r .next .words; an
 abbrev pub FeedSubframe : CollectSubframe → List ℕ → List ℕ → Page → SubframeFed → List ℕ → List ℕ → Type 0
 FeedSubframe c hkroot mack page r hkroot-after mack-after = outcome r hkroot-after mack-after ≡ feed (state c hkroot mack) page
 
+-- whether `feed` would use a page of that satellite, week and time
+abbrev pub IsUsed : CollectSubframe → ℕ → ℕ → ℕ → WordAnswer → Type 0
+IsUsed c satellite week time r = meaning-word r ≡ usedAnswer (state c [] []) (call [] satellite week time)
+
 abbrev pub meaning-shown : SubframeShown → Answer
 meaning-shown (Shown first many) = gives (first ∷ many ∷ [])
 meaning-shown NothingShown = nothing
@@ -67,4 +75,6 @@ ViewSubframe c hkroot mack m satellite r = r ≡ shown (bufferOf m hkroot mack) 
 
 -- "An HKROOT message is also handed over whole, as its 15 bytes, under the same rule."
 abbrev pub HkrootMessageRead : CollectSubframe → List ℕ → List ℕ → ℕ → HkrootMessage → Type 0
-HkrootMessageRead c hkroot mack satellite r = _≡_ {A = Copied} (record { answer = meaning-shown (r .answer); bytes = r .bytes }) (copied 15 hkroot (view (state c hkroot mack) 15 satellite))
+HkrootMessageRead c hkroot mack satellite r =
+    _≡_ {A = Copied} (record { answer = meaning-shown (r .answer); bytes = r .bytes })
+    (copied 15 hkroot (view (state c hkroot mack) 15 satellite))

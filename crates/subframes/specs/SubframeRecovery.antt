@@ -1,5 +1,8 @@
--- Demand 3, for subframes: "A collector recovers: after lost, doubled, reordered or altered pages, clock jumps and refused calls it behaves, in each run, like a new one; a message
--- comes out exactly when its parts are there, built from the earliest choice."
+-- Demand 3, for subframes: "A collector, new at the start, recovers. Let pages be lost, doubled, reordered or altered, the clock jump and calls be refused,
+-- with record and memory changed by these calls only. A run is the admitted pages from the first, or from one whose week or subframe differs from the one
+-- before, up to the next such change. In it all answers and completed messages are those a new collector gives. A satellite's message pair comes out
+-- exactly when its pages in the run first contain words 0 to 14 in that order, built from the earliest such choice." Here of the definition `feed`; of the
+-- code in `SubframeHistory.antt`.
 -- Assumes nothing.
 use Prim.Native.Nat.{ℕ, zero, suc, _-_, _*_, _≤_}
 use mathlib.Core.List.{List, [], _∷_, _++_}
@@ -7,21 +10,17 @@ use mathlib.Core.Bool.{Bool, true, false, not, _&&_}
 use mathlib.Core.Path.{_≡_}
 use mathlib.Core.Logic.{_↔_}
 use lib.ListN.{length, getD, take, drop}
-use lib.Dec.{ltb, eqb}
+use lib.Dec.{eqb}
 use Rattle.layouts.specs.Answer.{Answer, refused, nothing, gives, shown, Check, _when_, refusal}
-use Rattle.subframes.specs.Subframe.{State, new, Page, wordOf, subframeOf, feed, view}
+use Rattle.layouts.specs.Gst.{svnGstChecks}
+use Rattle.subframes.specs.Subframe.{State, new, Page, Fed, wordOf, subframeOf, feed, view}
 use Rattle.runs.specs.Runs.{afterAll, goesOn, runBefore, runWith, runOf}
 use Rattle.runs.specs.Rising.{Choice, Earliest}
 
--- A call is any page bytes, satellite, week and time. What it can be refused for after `new`, with 540 and 2,160 lent bytes, whatever came before: 12 never comes up.
+-- A call is any page bytes, satellite, week and time. What it can be refused for after `new`, with 540 and 2,160 lent bytes, whatever came before: 12 never
+-- comes up.
 abbrev pub callChecks : Page → List Check
-callChecks p =
-    1 when not (eqb (length (p .bytes)) 5) ∷
-    2 when ltb (p .satellite) 1 ∷
-    2 when ltb 36 (p .satellite) ∷
-    3 when ltb 4095 (p .week) ∷
-    4 when ltb 604799 (p .time) ∷
-    []
+callChecks p = 1 when not (eqb (length (p .bytes)) 5) ∷ svnGstChecks (p .satellite) (p .week) (p .time)
 
 abbrev pub isAdmitted : Page → Bool
 isAdmitted p = eqb (refusal (callChecks p)) 0
@@ -78,34 +77,45 @@ pub record Built (s : State) (satellite : ℕ) (r : List Page) : Type 0 where
 abbrev pub ComesOut : Answer → Page → Type 0
 ComesOut a p = a ≡ gives (p .week ∷ 30 * subframeOf (p .time) ∷ [])
 
--- Two collectors do the same at a call: the answer, and what the viewer shows of each satellite.
-pub record Alike (s t : State) (p : Page) : Type 0 where
-  pub answer : feed s p .answer ≡ feed t p .answer
-  pub view-is : (size satellite : ℕ) → view (feed s p .state) size satellite ≡ view (feed t p .state) size satellite
-  pub hkroot-is : (satellite : ℕ) → shown (feed s p .state .hkroot) (view (feed s p .state) 15 satellite) ≡ shown (feed t p .state .hkroot) (view (feed t p .state) 15 satellite)
-  pub mack-is : (satellite : ℕ) → shown (feed s p .state .mack) (view (feed s p .state) 60 satellite) ≡ shown (feed t p .state .mack) (view (feed t p .state) 60 satellite)
+-- Two calls did the same: the answer, and what the viewer shows of each satellite after it.
+pub record Alike (f g : Fed) : Type 0 where
+  pub answer : f .answer ≡ g .answer
+  pub view-is : (size satellite : ℕ) → view (f .state) size satellite ≡ view (g .state) size satellite
+  pub hkroot-is : (satellite : ℕ) → shown (f .state .hkroot) (view (f .state) 15 satellite) ≡ shown (g .state .hkroot) (view (g .state) 15 satellite)
+  pub mack-is : (satellite : ℕ) → shown (f .state .mack) (view (f .state) 60 satellite) ≡ shown (g .state .mack) (view (g .state) 60 satellite)
 
--- What the viewer shows of a satellite at the end of a run: its pair where its words are there, and nothing else. (`shown` are the bytes of its place: `message`.)
+-- What the viewer shows of a satellite at the end of a run: its pair where its words are there, and nothing else. (`shown` are the bytes of its place,
+-- `message`.)
 pub record Viewed (s : State) (r : List Page) (satellite : ℕ) : Type 0 where
   pub pair : Words satellite r → Built s satellite r × ((size : ℕ) → view s size satellite ≡ gives (size * (satellite - 1) ∷ size ∷ []))
   pub none : (Words satellite r → ⊥) → (size : ℕ) → view s size satellite ≡ nothing
 
--- What holds of a call p, where the calls before it led to the state s and left the run r.
-pub record Recovers (s : State) (r : List Page) (p : Page) : Type 0 where
+-- What holds of a call p that gave f, where the calls before it led to the state s and left the run r. Here f is what the definition gives (`feed s p`); in
+-- `SubframeHistory.antt` it is what the code gave.
+pub record Recovers (s : State) (r : List Page) (p : Page) (f : Fed) : Type 0 where
   -- (a) in each run the answers and the completed messages are those of a new collector, with any memory, that is fed that run alone
-  pub like-new : (hkroot mack : List ℕ) → length hkroot ≡ 540 → length mack ≡ 2160 → isAdmitted p ≡ true → Alike s (after (new hkroot mack) (before r p)) p
+  pub like-new : (hkroot mack : List ℕ) → length hkroot ≡ 540 → length mack ≡ 2160 → isAdmitted p ≡ true
+      → Alike f (feed (after (new hkroot mack) (before r p)) p)
   -- (b) the pair comes out exactly when the satellite's pages in the run contain words 0 to 14 in that order, and had not before; else nothing does
-  pub exactly-when : isAdmitted p ≡ true → ComesOut (feed s p .answer) p ↔ (Words (p .satellite) (grown r p) × (Words (p .satellite) (before r p) → ⊥))
-  pub else-nothing : isAdmitted p ≡ true → (ComesOut (feed s p .answer) p → ⊥) → feed s p .answer ≡ nothing
+  pub exactly-when : isAdmitted p ≡ true → ComesOut (f .answer) p ↔ (Words (p .satellite) (grown r p) × (Words (p .satellite) (before r p) → ⊥))
+  pub else-nothing : isAdmitted p ≡ true → (ComesOut (f .answer) p → ⊥) → f .answer ≡ nothing
   -- (c) built from the earliest such choice
-  pub earliest : isAdmitted p ≡ true → ComesOut (feed s p .answer) p → Built (feed s p .state) (p .satellite) (grown r p)
+  pub earliest : isAdmitted p ≡ true → ComesOut (f .answer) p → Built (f .state) (p .satellite) (grown r p)
   -- (d) the viewer shows it from then until the next change, and nothing before
-  pub viewed : isAdmitted p ≡ true → (satellite : ℕ) → 1 ≤ satellite → satellite ≤ 36 → Viewed (feed s p .state) (grown r p) satellite
+  pub viewed : isAdmitted p ≡ true → (satellite : ℕ) → 1 ≤ satellite → satellite ≤ 36 → Viewed (f .state) (grown r p) satellite
   pub until-changed : goesOn isAdmitted sameSubframe r p ≡ true → (satellite : ℕ) → 1 ≤ satellite → satellite ≤ 36 → Words satellite r
-      → (message 15 satellite (feed s p .state .hkroot) ≡ message 15 satellite (s .hkroot)) × (message 60 satellite (feed s p .state .mack) ≡ message 60 satellite (s .mack))
+      → (message 15 satellite (f .state .hkroot) ≡ message 15 satellite (s .hkroot)) × (message 60 satellite (f .state .mack) ≡ message 60 satellite (s .mack))
   -- (e) a refused call changes nothing, and its number depends on the call alone
-  pub refused-call : isAdmitted p ≡ false → feed s p ≡ record { state = s; answer = refused (refusal (callChecks p)) }
+  pub refused-call : isAdmitted p ≡ false → f ≡ record { state = s; answer = refused (refusal (callChecks p)) }
 
 -- From a new record and any 540 and 2,160 bytes, after any calls. (Any other number of lent bytes is refused with 1 at every call: `feed`.)
 abbrev pub SubframesRecover : Type 0
-SubframesRecover = (hkroot mack : List ℕ) → length hkroot ≡ 540 → length mack ≡ 2160 → (ps : List Page) (p : Page) → Recovers (after (new hkroot mack) ps) (run ps) p
+SubframesRecover =
+    (hkroot mack : List ℕ) → length hkroot ≡ 540 → length mack ≡ 2160 → (ps : List Page) (p : Page)
+    → Recovers (after (new hkroot mack) ps) (run ps) p (feed (after (new hkroot mack) ps) p)
+
+-- Between the calls, and also after refused ones: the viewer shows of each satellite what the last run has.
+abbrev pub SubframesShow : Type 0
+SubframesShow =
+    (hkroot mack : List ℕ) → length hkroot ≡ 540 → length mack ≡ 2160 → (ps : List Page) (satellite : ℕ) → 1 ≤ satellite → satellite ≤ 36
+    → Viewed (after (new hkroot mack) ps) (run ps) satellite

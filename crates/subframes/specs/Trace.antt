@@ -39,7 +39,8 @@ byAnswer (refused q) ends goes-on completes = ends
 byAnswer nothing ends goes-on completes = goes-on
 byAnswer (gives l) ends goes-on completes = completes
 
--- Entries fed one by one, n of them consumed before: until one completes a subframe or the trace ends. An entry that would be refused ends it before that entry; only as the first one it is answered with its number.
+-- Entries fed one by one, n of them consumed before: until one completes a subframe or the trace ends. An entry that would be refused ends it before that
+-- entry; only as the first one it is answered with its number.
 unfoldable pub feedEach : ℕ → State → List Page → FedMany
 feedEach n s [] = record { state = s; answer = nothing; consumed = n }
 feedEach n s (p ∷ ps) =

@@ -7,7 +7,7 @@ ghost use Prim.Native.Nat.{ℕ, _+_, _<_};
 ghost use lib.ListN.{length, getD, set};
 ghost use Rattle.layouts.specs.Answer.{refusal as refusalOf};
 ghost use Rattle.subframes.specs.Subframe.{feedChecks, changed, put4};
-ghost use Rattle.subframes.specs.PageInner.{pageOf, stateOf, Offered, PageFed};
+ghost use Rattle.subframes.specs.inner.Page.{pageOf, stateOf, Offered, PageFed};
 
 // Whose page it is, and when it came.
 pub(crate) struct Entry {
@@ -25,7 +25,8 @@ pub(crate) enum PageTaken {
 
 // The counts at a page of week `to_week` and subframe `to_subframe`: all 0 where either is another one.
 fn restart(counts: &mut [u8; 36], week: u16, subframe: u16, to_week: u16, to_subframe: u16)
-    ensures { λ r. ⌜ ((h m : List ℕ) → stateOf «to_week» «to_subframe» (now (counts .exit)) h m ≡ changed (stateOf week subframe (now (counts .entry)) h m) «to_week» «to_subframe») ⌝ }
+    ensures { λ r. ⌜ ((h m : List ℕ) → stateOf «to_week» «to_subframe» (now (counts .exit)) h m
+        ≡ changed (stateOf week subframe (now (counts .entry)) h m) «to_week» «to_subframe») ⌝ }
 {
     if week != to_week {
         *counts = [0; 36];
@@ -37,10 +38,12 @@ fn restart(counts: &mut [u8; 36], week: u16, subframe: u16, to_week: u16, to_sub
     }
 }
 
-// A page's first byte goes to one place, the other four to the other. All are read before any is written, so that the compiler can move the four as one number.
+// A page's first byte goes to one place, the other four to the other. All are read before any is written, so that the compiler can move the four as one
+// number.
 fn place(hkroot: &mut [u8], mack: &mut [u8], page: &[u8], h: usize, m: usize)
     requires { ⌜ (h < length (now hkroot)) × (m + 3 < length (now mack)) × (length (now page) ≡ 5) ⌝ }
-    ensures { λ r. ⌜ (now (hkroot .exit) ≡ set (now (hkroot .entry)) h (getD (now (page .entry)) 0 0)) × (now (mack .exit) ≡ put4 (now (mack .entry)) m (now (page .entry))) ⌝ }
+    ensures { λ r. ⌜ (now (hkroot .exit) ≡ set (now (hkroot .entry)) h (getD (now (page .entry)) 0 0))
+        × (now (mack .exit) ≡ put4 (now (mack .entry)) m (now (page .entry))) ⌝ }
 {
     let a = page[1];
     let b = page[2];
@@ -63,8 +66,10 @@ fn keep(
     word: u8,
     next: u8,
 ) -> PageTaken
-    requires { ⌜ (length (now hkroot) ≡ 540) × (length (now mack) ≡ 2160) × (length (now page) ≡ 5) × (i < 36) × (word < 15) × (next ≡ word + 1) × (getD (now counts) i 0 ≡ word) ⌝ }
-    ensures { λ r. ⌜ Offered (now (counts .entry)) (now (hkroot .entry)) (now (mack .entry)) (now (page .entry)) i word r (now (counts .exit)) (now (hkroot .exit)) (now (mack .exit)) ⌝ }
+    requires { ⌜ (length (now hkroot) ≡ 540) × (length (now mack) ≡ 2160) × (length (now page) ≡ 5) × (i < 36) × (word < 15)
+        × (next ≡ word + 1) × (getD (now counts) i 0 ≡ word) ⌝ }
+    ensures { λ r. ⌜ Offered (now (counts .entry)) (now (hkroot .entry)) (now (mack .entry)) (now (page .entry)) i word r
+        (now (counts .exit)) (now (hkroot .exit)) (now (mack .exit)) ⌝ }
 {
     let at = 15 * i + word as usize;
     place(hkroot, mack, page, at, 4 * at);
@@ -85,7 +90,8 @@ fn offer_at(
     word: u8,
 ) -> PageTaken
     requires { ⌜ (length (now hkroot) ≡ 540) × (length (now mack) ≡ 2160) × (length (now page) ≡ 5) × (i < 36) × (word < 15) ⌝ }
-    ensures { λ r. ⌜ Offered (now (counts .entry)) (now (hkroot .entry)) (now (mack .entry)) (now (page .entry)) i word r (now (counts .exit)) (now (hkroot .exit)) (now (mack .exit)) ⌝ }
+    ensures { λ r. ⌜ Offered (now (counts .entry)) (now (hkroot .entry)) (now (mack .entry)) (now (page .entry)) i word r
+        (now (counts .exit)) (now (hkroot .exit)) (now (mack .exit)) ⌝ }
 {
     let taken = WordCount { words: counts[i] }.take(word);
     let answer = taken.answer;
@@ -107,7 +113,8 @@ pub(crate) fn take_page(
     entry: Entry,
 ) -> PageTaken
     requires { ⌜ refusalOf (feedChecks (stateOf week subframe (now counts) (now hkroot) (now mack)) (pageOf entry (now page))) ≡ 0 ⌝ }
-    ensures { λ r. ⌜ PageFed (stateOf week subframe (now (counts .entry)) (now (hkroot .entry)) (now (mack .entry))) (pageOf entry (now (page .entry))) r (now (counts .exit)) (now (hkroot .exit)) (now (mack .exit)) ⌝ }
+    ensures { λ r. ⌜ PageFed (stateOf week subframe (now (counts .entry)) (now (hkroot .entry)) (now (mack .entry))) (pageOf entry (now (page .entry))) r
+        (now (counts .exit)) (now (hkroot .exit)) (now (mack .exit)) ⌝ }
 {
     // the word is (time / 2) mod 15, without a second division
     let time = entry.time;

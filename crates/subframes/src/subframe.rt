@@ -2,15 +2,19 @@
 use crate::page;
 use crate::page::Entry;
 use crate::page::PageTaken;
+use layouts::gst;
 ghost use mathlib.Core.Path.{_≡_};
+ghost use mathlib.Core.List.{[]};
 ghost use mathlib.Core.Bool.{true, false};
 ghost use Prim.Native.Nat.{_+_, _*_, _≤_, _<_};
 ghost use lib.ListN.{length, take, drop};
 ghost use Rattle.layouts.specs.Answer.{shown as shownOf, refusal as refusalOf};
-ghost use Rattle.subframes.specs.Subframe.{small, viewChecks, feedChecks};
-ghost use Rattle.subframes.specs.PageInner.{answerOf};
-ghost use Rattle.subframes.specs.SubframeInner.{Inside, Joined, eightOf};
-ghost use Rattle.subframes.specs.SubframePromises.{state, meaning-subframe, meaning-shown, NewSubframe, TakeWord, FeedSubframe, sizeOf, ViewSubframeShown, ViewSubframe, HkrootMessageRead};
+ghost use Rattle.subframes.specs.Subframe.{small, isUsed, rangeChecks, recordChecks, viewChecks, askChecks, feedChecks};
+ghost use Rattle.subframes.specs.inner.Page.{answerOf};
+ghost use Rattle.subframes.specs.inner.Subframe.{Inside, Joined, eightOf};
+ghost use Rattle.subframes.specs.SubframePromises.{state, call, meaning-subframe, meaning-shown, sizeOf};
+ghost use Rattle.subframes.specs.SubframePromises.{NewSubframe, TakeWord, FeedSubframe, IsUsed};
+ghost use Rattle.subframes.specs.SubframePromises.{ViewSubframeShown, ViewSubframe, HkrootMessageRead};
 
 // How many words of a satellite's subframe have come, and to which subframe they belong; the bytes are lent by the caller.
 pub struct CollectSubframe {
@@ -66,20 +70,20 @@ pub struct HkrootMessage {
 }
 
 impl WordCount {
-    // The count goes on by one where the word is the next one. Refuses 12 for a count above 15, then 7 for a word above 14.
+    // The count goes on by one where the word is the next one, else it stays. Refuses 12 for a count above 15, then 7 for a word above 14.
     pub fn take(self, word: u8) -> WordTaken
         ensures { λ r. ⌜ TakeWord (self .words) word r ⌝ }
     {
         let count = self.words;
         if 15 < count {
             return WordTaken {
-                next: WordCount { words: 0 },
+                next: WordCount { words: count },
                 answer: WordAnswer::Refused(12),
             };
         }
         if 14 < word {
             return WordTaken {
-                next: WordCount { words: 0 },
+                next: WordCount { words: count },
                 answer: WordAnswer::Refused(7),
             };
         }
@@ -106,7 +110,8 @@ pub fn new() -> CollectSubframe
     }
 }
 
-// Four counts as one number. By numbers of eight counts and not one by one, `all_small` reads the record as it was written: a load across two stores waits for both.
+// Four counts as one number. By numbers of eight counts and not one by one, `all_small` reads the record as it was written: a load across two stores waits
+// for both.
 fn joined(a: u8, b: u8, c: u8, d: u8) -> u64
     ensures { λ r. ⌜ Joined a b c d r ⌝ }
 {
@@ -140,21 +145,10 @@ fn all_small(counts: [u8; 36]) -> bool
     true
 }
 
-// The refusal number of the lent bytes, the record and the satellite; 0 for none.
-pub(crate) fn view_refuses(
-    collector: CollectSubframe,
-    hkroot: &[u8],
-    mack: &[u8],
-    satellite: u8,
-) -> u8
-    ensures { λ r. ⌜ r ≡ refusalOf (viewChecks (state collector (now (hkroot .entry)) (now (mack .entry))) satellite) ⌝ }
+// The refusal number of the record; 0 for none.
+fn range_refuses(collector: CollectSubframe) -> u8
+    ensures { λ r. ⌜ r ≡ refusalOf (rangeChecks (state collector [] [])) ⌝ }
 {
-    if hkroot.len() != 540 {
-        return 1;
-    }
-    if mack.len() != 2160 {
-        return 1;
-    }
     if 4095 < collector.week {
         return 12;
     }
@@ -165,13 +159,31 @@ pub(crate) fn view_refuses(
     if !all_small(counts) {
         return 12;
     }
-    if satellite < 1 {
-        return 2;
-    }
-    if 36 < satellite {
-        return 2;
-    }
     0
+}
+
+// The refusal number of the lent bytes and the record; 0 for none.
+pub(crate) fn record_refuses(collector: CollectSubframe, hkroot: &[u8], mack: &[u8]) -> u8
+    ensures { λ r. ⌜ r ≡ refusalOf (recordChecks (state collector (now (hkroot .entry)) (now (mack .entry)))) ⌝ }
+{
+    if hkroot.len() != 540 {
+        return 1;
+    }
+    if mack.len() != 2160 {
+        return 1;
+    }
+    range_refuses(collector)
+}
+
+// The refusal number of the lent bytes, the record and the satellite; 0 for none.
+fn view_refuses(collector: CollectSubframe, hkroot: &[u8], mack: &[u8], satellite: u8) -> u8
+    ensures { λ r. ⌜ r ≡ refusalOf (viewChecks (state collector (now (hkroot .entry)) (now (mack .entry))) satellite) ⌝ }
+{
+    let refusal = record_refuses(collector, hkroot, mack);
+    if refusal != 0 {
+        return refusal;
+    }
+    gst::svn_refuses(satellite as u64)
 }
 
 // The refusal number of a page; 0 for none.
@@ -184,22 +196,16 @@ fn refuses(
     week: u16,
     time: u32,
 ) -> u8
-    ensures { λ r. ⌜ r ≡ refusalOf (feedChecks (state collector (now (hkroot .entry)) (now (mack .entry))) (record { bytes = now (page .entry); satellite = satellite; week = week; time = time })) ⌝ }
+    ensures { λ r. ⌜ r ≡ refusalOf (feedChecks (state collector (now (hkroot .entry)) (now (mack .entry))) (call (now (page .entry)) satellite week time)) ⌝ }
 {
     if page.len() != 5 {
         return 1;
     }
-    let refusal = view_refuses(collector, hkroot, mack, satellite);
+    let refusal = record_refuses(collector, hkroot, mack);
     if refusal != 0 {
         return refusal;
     }
-    if 4095 < week {
-        return 3;
-    }
-    if 604799 < time {
-        return 4;
-    }
-    0
+    gst::refuses(satellite as u64, week as u64, time as u64)
 }
 
 // The answer to an admitted page of that week and subframe.
@@ -226,7 +232,8 @@ pub fn feed(
     week: u16,
     time: u32,
 ) -> SubframeFed
-    ensures { λ r. ⌜ FeedSubframe collector (now (hkroot .entry)) (now (mack .entry)) (record { bytes = now (page .entry); satellite = satellite; week = week; time = time }) r (now (hkroot .exit)) (now (mack .exit)) ⌝ }
+    ensures { λ r. ⌜ FeedSubframe collector (now (hkroot .entry)) (now (mack .entry)) (call (now (page .entry)) satellite week time) r
+        (now (hkroot .exit)) (now (mack .exit)) ⌝ }
 {
     let refusal = refuses(collector, hkroot, mack, page, satellite, week, time);
     if refusal != 0 {
@@ -261,6 +268,47 @@ pub fn feed(
     }
 }
 
+// The refusal number of the record, then of satellite, week and time; 0 for none.
+fn ask_refuses(collector: CollectSubframe, satellite: u8, week: u16, time: u32) -> u8
+    ensures { λ r. ⌜ r ≡ refusalOf (askChecks (state collector [] []) (call [] satellite week time)) ⌝ }
+{
+    let refusal = range_refuses(collector);
+    if refusal != 0 {
+        return refusal;
+    }
+    gst::refuses(satellite as u64, week as u64, time as u64)
+}
+
+// Whether the satellite's next word is that of the time: after a change of week or subframe it is word 0.
+fn has_next_word(collector: CollectSubframe, satellite: u8, week: u16, time: u32) -> bool
+    requires { ⌜ refusalOf (askChecks (state collector [] []) (call [] satellite week time)) ≡ 0 ⌝ }
+    ensures { λ r. ⌜ r ≡ isUsed (state collector [] []) (call [] satellite week time) ⌝ }
+{
+    let word = (time / 2 % 15) as u8;
+    if collector.week != week {
+        return word == 0;
+    }
+    if collector.subframe != (time / 30) as u16 {
+        return word == 0;
+    }
+    let i = (satellite - 1) as usize;
+    word == collector.counts[i]
+}
+
+// Whether `feed` would use a page of that satellite, week and time. Refuses 12 for the record, 2, 3, 4 for satellite, week and time.
+pub fn is_used(collector: CollectSubframe, satellite: u8, week: u16, time: u32) -> WordAnswer
+    ensures { λ r. ⌜ IsUsed collector satellite week time r ⌝ }
+{
+    let refusal = ask_refuses(collector, satellite, week, time);
+    if refusal != 0 {
+        return WordAnswer::Refused(refusal);
+    }
+    if has_next_word(collector, satellite, week, time) {
+        return WordAnswer::Used;
+    }
+    WordAnswer::Unused
+}
+
 // How many bytes a message has.
 fn message_bytes(message: Message) -> usize
     ensures { λ r. ⌜ r ≡ sizeOf message ⌝ }
@@ -271,7 +319,8 @@ fn message_bytes(message: Message) -> usize
     }
 }
 
-// Where the satellite's message lies, or nothing while its words have not all come. Refuses 1 for lent bytes other than 540 and 2,160, 12 for the record, 2 for the satellite.
+// Where the satellite's message lies, or nothing while its words have not all come.
+// Refuses 1 for lent bytes other than 540 and 2,160, 12 for the record, 2 for the satellite.
 pub fn view_shown(
     collector: CollectSubframe,
     hkroot: &[u8],

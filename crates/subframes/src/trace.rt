@@ -5,17 +5,19 @@ use crate::page::PageTaken;
 use crate::subframe;
 use crate::subframe::CollectSubframe;
 use crate::subframe::SubframeAnswer;
+use layouts::gst;
 ghost use mathlib.Core.Path.{_≡_};
 ghost use mathlib.Core.List.{List};
 ghost use Prim.Native.Nat.{ℕ, _+_, _*_, _≤_, _<_};
 ghost use lib.ListN.{length, take, drop};
 ghost use Rattle.layouts.specs.Answer.{refusal as refusalOf};
+ghost use Rattle.layouts.specs.Gst.{svnGstChecks};
 ghost use Rattle.subframes.specs.Subframe.{recordChecks};
 ghost use Rattle.subframes.specs.SubframePromises.{state, meaning-subframe};
 ghost use Rattle.subframes.specs.Trace.{entryAt, entries as entriesOf, feedEach, traceChecks};
 ghost use Rattle.subframes.specs.TracePromises.{outcome-all, FeedAll};
-ghost use Rattle.subframes.specs.TraceInner.{entryChecks, completesOf, endsWith, fedOf};
-ghost use Rattle.subframes.specs.PageInner.{pageOf};
+ghost use Rattle.subframes.specs.inner.Trace.{completesOf, endsWith, fedOf};
+ghost use Rattle.subframes.specs.inner.Page.{pageOf};
 
 pub struct TraceFed {
     pub collector: CollectSubframe,
@@ -50,22 +52,10 @@ pub(crate) fn entry_at(trace: &[u8], k: usize) -> Entry
 }
 
 // The refusal number of an entry; 0 for none.
-pub(crate) fn entry_refuses(entry: Entry) -> u8
-    ensures { λ r. ⌜ r ≡ refusalOf (entryChecks (entry .satellite) (entry .week) (entry .time)) ⌝ }
+fn entry_refuses(entry: Entry) -> u8
+    ensures { λ r. ⌜ r ≡ refusalOf (svnGstChecks (entry .satellite) (entry .week) (entry .time)) ⌝ }
 {
-    if entry.satellite < 1 {
-        return 2;
-    }
-    if 36 < entry.satellite {
-        return 2;
-    }
-    if 4095 < entry.week {
-        return 3;
-    }
-    if 604799 < entry.time {
-        return 4;
-    }
-    0
+    gst::refuses(entry.satellite as u64, entry.week as u64, entry.time as u64)
 }
 
 // Whether the page was its subframe's last.
@@ -118,7 +108,8 @@ fn feed_entries(
     trace: &[u8],
 ) -> TraceFed
     requires { ⌜ refusalOf (recordChecks (state collector (now hkroot) (now mack))) ≡ 0 ⌝ }
-    ensures { λ r. ⌜ outcome-all r (now (hkroot .exit)) (now (mack .exit)) ≡ feedEach 0 (state collector (now (hkroot .entry)) (now (mack .entry))) (entriesOf (now (trace .entry))) ⌝ }
+    ensures { λ r. ⌜ outcome-all r (now (hkroot .exit)) (now (mack .exit))
+        ≡ feedEach 0 (state collector (now (hkroot .entry)) (now (mack .entry))) (entriesOf (now (trace .entry))) ⌝ }
 {
     let many = trace.len() / 12;
     let mut week = collector.week;
@@ -153,11 +144,12 @@ fn trace_refuses(collector: CollectSubframe, hkroot: &[u8], mack: &[u8], trace: 
     if trace.len() % 12 != 0 {
         return 1;
     }
-    subframe::view_refuses(collector, hkroot, mack, 1)
+    subframe::record_refuses(collector, hkroot, mack)
 }
 
-// Feeds entries from the front until one completes a subframe, the trace ends, or before one that would be refused; tells how many it consumed, and the last answer.
-// Refuses 1 for lent bytes other than 540 and 2,160 or a trace that is not whole entries, 12 for the record, 2, 3, 4 for the first entry's satellite, week and time.
+// Feeds entries from the front until one completes a subframe, the trace ends, or before one that would be refused; tells how many it consumed, and the last
+// answer. Refuses 1 for lent bytes other than 540 and 2,160 or a trace that is not whole entries, 12 for the record, 2, 3, 4 for the first entry's satellite,
+// week and time.
 pub fn feed_all(
     collector: CollectSubframe,
     hkroot: &mut [u8],

@@ -3,6 +3,7 @@
 use mathlib.Core.Path.{_≡_, refl, sym}
 use mathlib.Core.Bool.{true}
 use Prim.Native.Nat.{_≤_, _-_}
+use Rattle.layouts.specs.Lists.{all}
 use Rattle.dsms.specs.Dsm.{allHeld}
 use native.Mathlib.Omega.{arith}
 use Rattle.dsms.proofs.Blocks.{held-more, not-held}
@@ -16,14 +17,16 @@ abbrev μ-loop : tie.MeasureT-loop
 μ-loop n held i₀ i = n - i
 
 loop-holds : tie.Need-loop-holds Inv-loop μ-loop
-unfolding allHeld
+unfolding all
 loop-holds c = (omega arith, refl)
 
 array-read-if1 : tie.Need-array-read-if1 Inv-loop μ-loop
 array-read-if1 c = omega arith
 
 returns : tie.Need-returns Inv-loop μ-loop
-returns c = let a = c .before .before .before .args in let h = c .before .before .loop in not-held (a .t1) (h .i) (a .n) (omega arith) (h .inv .1) (c .if1 .taken)
+returns c =
+    let a = c .before .before .before .args in
+    let h = c .before .before .loop in not-held (a .t1) (h .i) (a .n) (omega arith) (h .inv .1) (c .if1 .taken)
 
 add-i : tie.Need-add-i Inv-loop μ-loop
 add-i c = omega arith

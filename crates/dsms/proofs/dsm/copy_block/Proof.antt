@@ -1,13 +1,13 @@
 -- `dsm::copy_block`: before each turn the first `i` bytes are copied.
 -- Assumes nothing.
-use lib.ListN.{length-set}
 use mathlib.Core.Path.{_≡_, ap, _∙_}
-use mathlib.Core.List.{List, _++_}
-use Prim.Native.Nat.{ℕ, _+_, _*_, _≤_, _-_}
+use mathlib.Core.List.{List}
+use Prim.Native.Nat.{ℕ, _*_, _≤_, _-_}
 use native.Mathlib.Numerals.{add-one}
-use lib.ListN.{length, take, drop}
+use lib.ListN.{length, length-set}
 use lib.Seq.{paste, paste-zero, paste-suc, take-all}
 use native.Mathlib.Omega.{arith}
+use Rattle.layouts.specs.Lists.{put}
 use Rattle.dsms.proofs.dsm.copy_block.Statement.{statement}
 use Rattle.dsms.proofs.dsm.copy_block.Tie as tie
 
@@ -55,7 +55,7 @@ returns c =
     let a = c .before .before .args in
     let h = c .before .loop in
     let end : h .i ≡ 13 = omega arith in
-    rw end at (h .inv .2) ∙ ap (λ (l : List ℕ). take (13 * a .n) (a .dsm .now) ++ l ++ drop (13 * a .n + 13) (a .dsm .now)) (take-all 13 (a .block .now) (omega arith))
+    rw end at (h .inv .2) ∙ ap (λ (l : List ℕ). put (a .dsm .now) (13 * a .n) 13 l) (take-all 13 (a .block .now) (omega arith))
 
 pub copy-block-spec : {M : Type 1} → statement M
 copy-block-spec =

@@ -16,7 +16,7 @@ same-length : tie.Need-same-length
 same-length c = search needs
 
 returns : tie.Need-returns
-returns c = let a = c .before .before .before .before .before .args in feed-refused (state (a .collector) (a .dsm .now)) (a .header) (a .block .now) (c .before .refuses .ensures) (c .if1 .taken)
+returns c = search feed-refused
 
 dsm-id-requires : tie.Need-dsm-id-requires
 dsm-id-requires c κs = search needs
@@ -32,20 +32,31 @@ cast-take c = search needs
 
 take-requires : tie.Need-take-requires
 take-requires c κs =
-    let a = c .before .before .before .before .before .before .before .before .before .args in
-    let s = state (a .collector) (a .dsm .now) in
-    let fits = admitted-then (a .collector .id) (a .dsm .now) (a .block .now) (c .before .before .before .before .before .refuses .ensures) (c .before .before .before .before .if1 .left) in
-    let same : c .before .before .begin .result .id ≡ c .before .before .before .dsm-id .result = ap (λ (x : State). x .id) (c .before .before .begin .ensures (a .dsm .now)) ∙ begun-id s (c .before .before .before .dsm-id .result) in
-    (omega (arith, c .before .before .before .dsm-id .ensures, header-id (a .header)), omega (arith, c .dsm-block-id .ensures, header-block (a .header)), fits .0, fits .1)
+    let b = c .before .before in
+    let i = b .before .dsm-id in
+    let e = b .before .before in
+    let a = e .before .before .before .before .before .args in
+    let fits = admitted-then (a .collector .id) (a .dsm .now) (a .block .now) (e .before .refuses .ensures) (e .if1 .left) in
+    let same : b .begin .result .id ≡ i .result =
+    ap (λ (x : State). x .id) (b .begin .ensures (a .dsm .now)) ∙ begun-id (state (a .collector) (a .dsm .now)) (i .result) in (
+      omega (arith, i .ensures, header-id (a .header)),
+      omega (arith, c .dsm-block-id .ensures, header-block (a .header)),
+      fits .0,
+      fits .1,
+    )
 
 same-length-2 : tie.Need-same-length-2
 same-length-2 c = search needs
 
 returns-2 : tie.Need-returns-2
 returns-2 c =
-    let a = c .before .before .before .before .before .before .before .before .before .before .before .before .args in
-    feed-taken (state (a .collector) (a .dsm .now)) (a .header) (a .block .now) (c .before .before .before .before .before .before .before .before .refuses .ensures) (c .before .before .before .before .before .before .before .if1 .left) (c .before .before .before .before .before .before .dsm-id .ensures) (c .before .before .before .dsm-block-id .ensures)
-    (c .before .before .before .before .before .begin .ensures (a .dsm .now)) (c .before .before .take .ensures)
+    let d = c .before .before in
+    let n = d .before .dsm-block-id in
+    let b = d .before .before .before in
+    let e = b .before .before in
+    let a = e .before .before .before .before .before .args in
+    feed-taken (state (a .collector) (a .dsm .now)) (a .header) (a .block .now) (e .before .refuses .ensures) (e .if1 .left) (b .before .dsm-id .ensures)
+    (n .ensures) (b .begin .ensures (a .dsm .now)) (d .take .ensures)
 
 pub feed-spec : {M : Type 1} → statement M
 feed-spec =

@@ -1,6 +1,6 @@
 -- `dsm::store`: a held block keeps its first bytes.
 -- Assumes nothing.
-use Rattle.dsms.specs.DsmInner.{stateOf}
+use Rattle.dsms.specs.inner.Dsm.{stateOf}
 use Rattle.dsms.proofs.Blocks.{stored-held, stored-new}
 use borrow.Author.Needs.{needs}
 use Rattle.dsms.proofs.dsm.store.Statement.{statement}
@@ -10,7 +10,9 @@ element-copy-out-if1 : tie.Need-element-copy-out-if1
 element-copy-out-if1 c = search needs
 
 returns : tie.Need-returns
-returns c = let a = c .before .before .before .before .args in λ id came done. stored-held (stateOf id came (a .held .now) done (a .dsm .now)) (a .n) (a .block .now) (c .if1 .taken)
+returns c =
+    let a = c .before .before .before .before .args in
+    λ id came done. stored-held (stateOf id came (a .held .now) done (a .dsm .now)) (a .n) (a .block .now) (c .if1 .taken)
 
 copy-block-requires : tie.Need-copy-block-requires
 copy-block-requires c κs = search needs
@@ -22,7 +24,10 @@ same-length : tie.Need-same-length
 same-length c = search needs
 
 returns-2 : tie.Need-returns-2
-returns-2 c = let a = c .before .before .before .before .before .before .before .before .args in λ id came done. stored-new (stateOf id came (a .held .now) done (a .dsm .now)) (a .n) (a .block .now) (search needs) (c .before .before .copy-block .ensures)
+returns-2 c =
+    let b = c .before .before .copy-block in
+    let a = c .before .before .before .before .before .before .before .before .args in
+    λ id came done. stored-new (stateOf id came (a .held .now) done (a .dsm .now)) (a .n) (a .block .now) (search needs) (b .ensures)
 
 pub store-spec : {M : Type 1} → statement M
 store-spec =

@@ -21,7 +21,9 @@ same-length c = search needs
 returns-2 : tie.Need-returns-2
 returns-2 c =
     let a = c .before .before .before .before .before .before .before .before .before .before .args in
-    taken-on (state (a .collector) (a .dsm .now)) (a .n) (a .block .now) (search needs) (c .before .before .before .before .store .ensures (a .collector .id) (a .collector .came) (a .collector .done)) (c .finish .ensures)
+    let d = a .collector in
+    taken-on (state d (a .dsm .now)) (a .n) (a .block .now) (search needs)
+    (c .before .before .before .before .store .ensures (d .id) (d .came) (d .done)) (c .finish .ensures)
 
 pub take-spec : {M : Type 1} → statement M
 take-spec = tie.close (tie.spec returns store-requires finish-requires same-length returns-2)

@@ -26,7 +26,9 @@ enum-known-n : tie.Need-enum-known-n
 enum-known-n c = search needs
 
 slice-aggregate-result-3 : tie.Need-slice-aggregate-result-3
-slice-aggregate-result-3 c = let a = c .before .before .before .before .before .before .args in sym (length-take-le (c .before .before .n .given .0 .0) (a .dsm .now) (search view-room))
+slice-aggregate-result-3 c =
+    let a = c .before .before .before .before .before .before .args in
+    sym (length-take-le (c .before .before .n .given .0 .0) (a .dsm .now) (search view-room))
 
 returns : tie.Need-returns
 returns c = search view-refused

@@ -15,7 +15,11 @@ same-length : tie.Need-same-length
 same-length c = search needs
 
 returns : tie.Need-returns
-returns c = let a = c .before .before .before .before .before .before .before .before .before .args in hkroot-fed (a .collector) (a .hkroot .now) (a .mack .now) (a .satellite) (a .dsms) (a .dsm .now) (c .before .before .before .before .before .hkroot-message .result) (c .before .before .before .before .before .hkroot-message .ensures) (c .before .before .feed-message .ensures)
+returns c =
+    let d = c .before .before .before .before .before in
+    let a = d .before .before .before .before .args in
+    hkroot-fed (a .collector) (a .hkroot .now) (a .mack .now) (a .satellite) (a .dsms) (a .dsm .now) (d .hkroot-message .result) (d .hkroot-message .ensures)
+    (c .before .before .feed-message .ensures)
 
 pub feed-hkroot-spec : {M : Type 1} → statement M
 feed-hkroot-spec =

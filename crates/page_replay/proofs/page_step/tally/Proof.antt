@@ -2,13 +2,17 @@
 -- Assumes nothing.
 use mathlib.Core.Bool.{not}
 use Rattle.subframes.specs.SubframePromises.{outcome}
-use Rattle.page_replay.specs.ReplayInner.{dsmOutcome}
+use Rattle.page_replay.specs.inner.Steps.{dsmOutcome}
 use Rattle.page_replay.specs.ReplayPromises.{state}
 use native.Mathlib.Omega.{arith}
 use Rattle.page_replay.proofs.PageSteps.{counted-is, one-few, subframes-few, dsms-few}
 use borrow.Author.Needs.{needs}
 use Rattle.page_replay.proofs.page_step.tally.Statement.{statement}
 use Rattle.page_replay.proofs.page_step.tally.Tie as tie
+
+-- The call's start, seen from the time of the next page.
+abbrev start : tie.After-later → tie.Start
+start d = d .before .before .before
 
 subframe-done-requires : tie.Need-subframe-done-requires
 subframe-done-requires c κs = search needs
@@ -26,28 +30,38 @@ one-requires : tie.Need-one-requires
 one-requires c κs = search needs
 
 add-t15 : tie.Need-add-t15
-add-t15 c = omega (arith, one-few (c .before .before .before .before .before .before .before .before .args .used))
+add-t15 c = omega (arith, one-few (start (c .before .before .before .before .before) .args .used))
 
 one-requires-2 : tie.Need-one-requires-2
 one-requires-2 c κs = search needs
 
 add-t18 : tie.Need-add-t18
-add-t18 c = omega (arith, one-few (not (c .before .before .before .before .before .before .before .before .before .before .args .used)))
+add-t18 c = omega (arith, one-few (not (start (c .before .before .before .before .before .before .before) .args .used)))
 
 subframes-in-requires : tie.Need-subframes-in-requires
 subframes-in-requires c κs = search needs
 
 add-t20 : tie.Need-add-t20
-add-t20 c = omega (arith, subframes-few (c .before .before .before .before .before .before .before .before .before .before .before .subframe-done .result), c .before .before .before .before .before .before .before .before .before .before .before .before .pre .1 .subframes-room)
+add-t20 c =
+    let d = c .before .before .before .before .before .before .before .before .before in
+    omega (arith, subframes-few (d .before .before .subframe-done .result), start d .pre .1 .subframes-room)
 
 dsms-in-requires : tie.Need-dsms-in-requires
 dsms-in-requires c κs = search needs
 
 add-t22 : tie.Need-add-t22
-add-t22 c = omega (arith, dsms-few (c .before .before .before .before .before .before .before .before .before .before .before .before .dsm-done .result), c .before .before .before .before .before .before .before .before .before .before .before .before .before .before .pre .1 .dsms-room)
+add-t22 c =
+    let d = c .before .before .before .before .before .before .before .before .before .before .before in
+    omega (arith, dsms-few (d .before .dsm-done .result), start d .pre .1 .dsms-room)
 
 returns : tie.Need-returns
-returns c = λ h m d h₀ m₀ d₀. let a = c .before .before .before .before .before .before .before .before .before .before .before .before .before .before .args in counted-is (state (a .«record») h₀ m₀ d₀) (a .used) (outcome (a .fed) h m) (dsmOutcome (a .passed) d) (c .before .before .before .before .before .before .before .before .before .before .before .later .ensures) (c .before .before .before .before .before .before .before .before .before .before .before .before .before .subframe-done .ensures) (c .before .before .before .before .before .before .before .before .before .before .before .before .dsm-done .ensures) (c .before .before .before .before .before .before .before .one .ensures) (c .before .before .before .before .before .one2 .ensures) (c .before .before .before .subframes-in .ensures) (c .before .dsms-in .ensures)
+returns c =
+    let d = c .before .before .before .before .before .before .before .before .before .before .before in
+    let a = start d .args in
+    λ h m e h₀ m₀ e₀.
+    counted-is (state (a .«record») h₀ m₀ e₀) (a .used) (outcome (a .fed) h m) (dsmOutcome (a .passed) e) (d .later .ensures)
+    (d .before .before .subframe-done .ensures) (d .before .dsm-done .ensures) (c .before .before .before .before .before .before .before .one .ensures)
+    (c .before .before .before .before .before .one2 .ensures) (c .before .before .before .subframes-in .ensures) (c .before .dsms-in .ensures)
 
 pub tally-spec : {M : Type 1} → statement M
 tally-spec =

@@ -1,7 +1,7 @@
 -- `page::restart`: each case of a change.
 -- Assumes nothing.
 use Rattle.subframes.proofs.Pages.{other-week-taken, other-subframe-taken, same-subframe}
-use Rattle.subframes.specs.PageInner.{stateOf}
+use Rattle.subframes.specs.inner.Page.{stateOf}
 use Rattle.subframes.proofs.page.restart.Statement.{statement}
 use Rattle.subframes.proofs.page.restart.Tie as tie
 

@@ -4,7 +4,7 @@ use Prim.Native.Nat.{_-_}
 use mathlib.Core.Path.{sym, _∙_}
 use native.Mathlib.Omega.{arith}
 use borrow.Author.Needs.{needs}
-use Rattle.subframes.specs.PageInner.{stateOf}
+use Rattle.subframes.specs.inner.Page.{stateOf}
 use Rattle.subframes.specs.SubframePromises.{state}
 use Rattle.subframes.proofs.Entries.{Left, turn-first, turn-none, turn-ends, turn-asks, turn-time, turn-sound, turn-completes, turn-goes-on}
 use Rattle.subframes.proofs.trace.feed_entries.Statement.{statement}

@@ -86,7 +86,7 @@ fn words() {
             let expected = match number {
                 0 if word == words => (u64::from(words) + 1, Told::given(0, 0, 0)),
                 0 => (words.into(), Told::NOTHING),
-                _ => (0, Told::refused(number)),
+                _ => (words.into(), Told::refused(number)),
             };
             if (taken.next, taken.answer) != expected {
                 println!("DIFFERENCE take of count {words} word {word}: {} {:?}", taken.next, taken.answer);

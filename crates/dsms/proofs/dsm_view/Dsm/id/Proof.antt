@@ -1,4 +1,5 @@
--- `dsm_view::Dsm::id` meets its contract: a walk of its MIR, by hand. A number is read from a field of the struct, and the struct is seen at exit as it was passed.
+-- `dsm_view::Dsm::id` meets its contract: a walk of its MIR, by hand. A number is read from a field of the struct, and the struct is seen at exit as it
+-- was passed.
 -- Assumes nothing.
 use mathlib.Core.Path.{refl}
 use mathlib.Core.List.{[], _∷_}
@@ -11,20 +12,17 @@ use prog.Memory.{Memory}
 use prog.Routine.{Routine}
 use prog.Wp.{Heap, Calls, Loops, WpFn, Tables}
 use ghost.Atoms.{Atoms}
-use contract.Lifetimes.{Lfts}
 use contract.Monad.{Fun}
 use contract.Running.{givenOf, tables, tablesOf}
 use types.Kit.{Given, ‵, _⊛_, _$_, _∵_, !, qed, by, move, suffices, frame, done}
 use types.Part.{whole, sub, look-in}
 use types.Run.{look, init, forget, stop, fld, from, load, of-opd, assigns, returns, enter, alloc1, alloc0, params1, pass1, pass0, free1, free0}
 use sound.WpLaws.{WpFn-mono}
-use denote.RattleType.{RattleType, owns}
+use denote.RattleType.{owns}
 use denote.Laws.{Is}
 use denote.Plain.{uint-makes, uint-lawful}
 use denote.Builtin.{u8}
 use denote.Steps.{owned}
-use denote.Signature.{namedLft}
-use denote.Struct.Declared.{Declared}
 use denote.Struct.Laws as LL
 use denote.Triple.Entry.{onEntry}
 use denote.Triple.Spec.{Meets, tripleOf}
@@ -32,27 +30,17 @@ use denote.Triple.Table.{entered}
 use denote.Triple.Walked.{says, Stays, stay-none, walkOf, goes-none, Walks, ends-at, walked, walk-meets}
 use denote.Exit.{yes}
 use Rattle.dsms.specs.declared.dsm_view.Dsm.{Dsm}
-use Rattle.dsms.proofs.dsm_view.Dsm as T
-use Rattle.dsms.proofs.dsm_view.Dsm.Laws as T′
+use Rattle.dsms.proofs.Passed.{D, B, L}
 use Rattle.dsms.proofs.dsm_view.Dsm.id.Key.{name as #id}
 use Rattle.dsms.proofs.dsm_view.Dsm.id as id
 use Rattle.dsms.proofs.dsm_view.Dsm.id.Statement as stated
 use Rattle.dsms.proofs.dsm_view.Dsm.id.Code as code
 
--- the struct's type, over the signature's lifetimes
-abbrev D : Lfts 1 → Declared
-D κs = T.the-type (namedLft 1 0 tt κs)
-
-abbrev B : Lfts 1 → RattleType
-B κs = T.the-row (namedLft 1 0 tt κs)
-
-abbrev L : (κs : Lfts 1) → LL.Laws (D κs)
-L κs = T′.the-laws (namedLft 1 0 tt κs)
-
 abbrev stayed : Stays (id.ended .signature .params) (id.ended .kept)
 stayed = (stay-none B yes, tt)
 
-module _ {M : Type 1} (𝓤 : URA M) (H : Heap 𝓤) (A : Atoms 𝓤) (W : Given 𝓤 H A) (mem : Memory → SProp 𝓤) (run : Routine → Fun 𝓤) (κ : Lft) (q : Share) (d : Dsm) where
+module _ {M : Type 1} (𝓤 : URA M) (H : Heap 𝓤) (A : Atoms 𝓤) (W : Given 𝓤 H A) (mem : Memory → SProp 𝓤) (run : Routine → Fun 𝓤) (κ : Lft) (q : Share)
+    (d : Dsm) where
   -- the machine values of the struct, and of the field
   abbrev m : Val
   m = LL.val (D (κ, tt)) (L (κ, tt)) d
@@ -66,7 +54,8 @@ module _ {M : Type 1} (𝓤 : URA M) (H : Heap 𝓤) (A : Atoms 𝓤) (W : Given
   exits : Is u8 (d .id) (v ∷ []) → ent 𝓤 (onEntry 𝓤 H A id.signature (κ, tt) (q, tt) (d, tt) (m ∷ [], tt)) (Post v)
   exits is =
       qed W ((‵ (flft κ q) ⊛ ‵ ftrue) ∷ ‵ (owns (B (κ, tt) ∷ []) (d, tt) (m ∷ [], tt)) ∷ []) ∵
-      suffices ! _ (ends-at 𝓤 H A id.ended stayed (id.clauses 𝓤 H A mem run) W (((κ, tt), (q, tt), tt, (d, tt), (m ∷ [], tt)), tt) v (d .id) (tt, tt) (tt, tt)) $ says ! refl $
+      suffices ! _ (ends-at 𝓤 H A id.ended stayed (id.clauses 𝓤 H A mem run) W (((κ, tt), (q, tt), tt, (d, tt), (m ∷ [], tt)), tt) v (d .id) (tt, tt)
+      (tt, tt)) $ says ! refl $
       frame ! $ frame ! $ owned ! u8 (Is u8) (uint-makes 𝓤 H A W w8) (d .id) _ is $ done !
 
   module _ (C : Calls 𝓤 H) (Λ : Loops 𝓤 H) where
@@ -74,18 +63,22 @@ module _ {M : Type 1} (𝓤 : URA M) (H : Heap 𝓤) (A : Atoms 𝓤) (W : Given
     walk p =
         let fields = LL.owed (D (κ, tt)) (L (κ, tt)) d _ p in
         qed W ((‵ (flft κ q) ⊛ ‵ ftrue) ∷ ‵ (owns (B (κ, tt) ∷ []) (d, tt) (m ∷ [], tt)) ∷ []) ∵ enter ! C Λ code.function (m ∷ []) _ $
-        alloc1 ! (λ l₀. alloc1 ! (λ l₁. alloc0 ! $ params1 ! $ pass1 ! (init ! 0 refl (LL.lawful (D (κ, tt)) (L (κ, tt)) 𝓤 H A W .typed d (m ∷ []) p .0)) $ pass0 ! $
-        assigns ! (of-opd ! (load ! (from ! (fld ! refl (stop !))) (look-in ! 0 (sub ! 0 refl (whole !))))) (from ! (stop !)) (init ! 2 refl (uint-lawful 𝓤 H A W w8 .typed (d .id) _ (fields .0) .0)) $
+        alloc1 ! (λ l₀. alloc1 ! (λ l₁. alloc0 ! $ params1 ! $
+        pass1 ! (init ! 0 refl (LL.lawful (D (κ, tt)) (L (κ, tt)) 𝓤 H A W .typed d (m ∷ []) p .0)) $ pass0 ! $
+        assigns ! (of-opd ! (load ! (from ! (fld ! refl (stop !))) (look-in ! 0 (sub ! 0 refl (whole !))))) (from ! (stop !))
+        (init ! 2 refl (uint-lawful 𝓤 H A W w8 .typed (d .id) _ (fields .0) .0)) $
         returns ! (look ! 2 refl) $ forget ! 0 refl $ forget ! 2 refl $ move ! (2 ∷ 3 ∷ []) $ free1 ! $ free1 ! $ free0 ! $ by ! (exits (fields .0))))
 
 module _ {M : Type 1} (𝓤 : URA M) (H : Heap 𝓤) (A : Atoms 𝓤) (W : Given 𝓤 H A) (mem : Memory → SProp 𝓤) (run : Routine → Fun 𝓤) where
   id-walks : (C : Calls 𝓤 H) (Λ : Loops 𝓤 H) → Walks 𝓤 H A id.ended stayed (WpFn 𝓤 H C Λ code.function) (id.clauses 𝓤 H A mem run)
-  id-walks C Λ = walked 𝓤 H A id.ended stayed (id.clauses 𝓤 H A mem run) (WpFn 𝓤 H C Λ code.function) (λ κs. (LL.vals (D κs) (L κs), tt)) (λ κs. (LL.tells (D κs) (L κs), tt))
+  id-walks C Λ = walked 𝓤 H A id.ended stayed (id.clauses 𝓤 H A mem run) (WpFn 𝓤 H C Λ code.function) (λ κs. (LL.vals (D κs) (L κs), tt))
+      (λ κs. (LL.tells (D κs) (L κs), tt))
       (λ κs qs bounds a g are. via 𝓤 _ (fst∗ 𝓤 _ (emp 𝓤)) (walk 𝓤 H A W mem run (κs .0) (qs .0) (a .0) C Λ (are .0)))
 
 id-meets : {M : Type 1} (𝓤 : URA M) (H : Heap 𝓤) (A : Atoms 𝓤) → Given 𝓤 H A → (mem : Memory → SProp 𝓤) (run : Routine → Fun 𝓤) (𝓣 : Tables 𝓤 H)
     → Meets 𝓤 H A id.signature (WpFn 𝓤 H (𝓣 .C) (𝓣 .Λ) code.function) (id.spec 𝓤 H A mem run)
-id-meets 𝓤 H A W mem run 𝓣 = walk-meets 𝓤 H A id.ended stayed W (goes-none 𝓤 H A W 1 B yes (λ κs x f. refl), tt) (id.clauses 𝓤 H A mem run) (WpFn 𝓤 H (𝓣 .C) (𝓣 .Λ) code.function) (WpFn-mono 𝓤 H (W .laws) 𝓣 code.function) (id-walks 𝓤 H A W mem run (𝓣 .C) (𝓣 .Λ))
+id-meets 𝓤 H A W mem run 𝓣 = walk-meets 𝓤 H A id.ended stayed W (goes-none 𝓤 H A W 1 B yes (λ κs x f. refl), tt) (id.clauses 𝓤 H A mem run)
+    (WpFn 𝓤 H (𝓣 .C) (𝓣 .Λ) code.function) (WpFn-mono 𝓤 H (W .laws) 𝓣 code.function) (id-walks 𝓤 H A W mem run (𝓣 .C) (𝓣 .Λ))
 
 pub id-spec : {M : Type 1} → stated.statement M
 unfolding code.routine tablesOf
