@@ -10,9 +10,10 @@ use lib.ListN.{length, getD, take, drop, length-append, length-drop, take-append
 use lib.Seq.{length-take-le, take-append-le, drop-append-le, drop-append-add}
 use lib.Dec.{eqb}
 use Rattle.layouts.specs.Answer.{Answer, refused, nothing, gives, refusal}
+use Rattle.layouts.specs.InavPage.{isCounted}
 use Rattle.subframes.specs.Subframe.{Page, wordOf, State as Subframes, Fed as SubframesFed, feedChecks, answerAt, used, offered, feed as feedPage}
 use Rattle.dsms.specs.Dsm.{State as Dsms}
-use Rattle.page_replay.specs.Replay.{Time, Dsm, State, Run, isCounted, subframesIn, dsmsIn, passedOn, skipped, counted, fedPage, fed, pageStep, andThen, replayed, pagesOf, wholePages}
+use Rattle.page_replay.specs.Replay.{Time, Dsm, State, Run, subframesIn, dsmsIn, passedOn, skipped, counted, fedPage, fed, pageStep, andThen, replayed, pagesOf, wholePages}
 use Rattle.page_replay.specs.Pieces.{followedBy}
 use Rattle.page_replay.proofs.PageFold.{at-most-one}
 use Rattle.page_replay.proofs.PageRefusals.{pages-many}

@@ -81,18 +81,18 @@ called s bytes budget = go (eqb (refusal (replayChecks s budget)) 0) refl
 record-stops : (s : Running) {q : ℕ} → s .over ≡ false → q ≡ refusal (replayChecks (s .replay) 15) → (q ≡ 0 → ⊥) → q ≡ refusal (recordChecks s)
 record-stops s {q} g e ne = rw g (stopped (replayChecks (s .replay) 15) (12 when ltb 29 (s .held) ∷ []) e ne)
 
-record-held : (s : Running) {q : ℕ} → s .over ≡ false → refusal (replayChecks (s .replay) 15) ≡ 0 → q ≡ refusal (12 when ltb 29 (s .held) ∷ []) → q ≡ refusal (recordChecks s)
+pub record-held : (s : Running) {q : ℕ} → s .over ≡ false → refusal (replayChecks (s .replay) 15) ≡ 0 → q ≡ refusal (12 when ltb 29 (s .held) ∷ []) → q ≡ refusal (recordChecks s)
 record-held s {q} g e h = rw g (went-on (replayChecks (s .replay) 15) (12 when ltb 29 (s .held) ∷ []) tt refl e h)
 
 held-high : (s : Running) → 29 < s .held → 12 ≡ refusal (12 when ltb 29 (s .held) ∷ [])
 unfolding refusal
 held-high s h = rw (lt-ltb 29 (s .held) h)
 
-held-low : (s : Running) → s .held ≤ 29 → 0 ≡ refusal (12 when ltb 29 (s .held) ∷ [])
+pub held-low : (s : Running) → s .held ≤ 29 → 0 ≡ refusal (12 when ltb 29 (s .held) ∷ [])
 unfolding refusal
 held-low s h = rw (le-ltb 29 (s .held) h)
 
-room-pass : (s : Running) (out : List ℕ) {q : ℕ} → 256 ≤ length out → q ≡ refusal (recordChecks s) → q ≡ refusal (checks s out)
+pub room-pass : (s : Running) (out : List ℕ) {q : ℕ} → 256 ≤ length out → q ≡ refusal (recordChecks s) → q ≡ refusal (checks s out)
 unfolding refusal
 room-pass s out h e = rw (le-ltb (length out) 256 h) e
 
@@ -100,8 +100,18 @@ room-short : (s : Running) (out : List ℕ) → length out < 256 → 1 ≡ refus
 unfolding refusal
 room-short s out h = rw (lt-ltb (length out) 256 h)
 
+-- what is known of a call that is not refused
+pub not-refused : (s : Running) (out : List ℕ) → s .over ≡ false → refusal (checks s out) ≡ 0 → refusal (replayChecks (s .replay) 15) ≡ 0
+unfolding refusal
+not-refused s out g e = go (ltb (length out) 256) e (called (s .replay) [] 15)
+  where
+    go : (b : Bool) → cond b 1 (refusal (recordChecks s)) ≡ 0 → Called (s .replay) [] 15 → refusal (replayChecks (s .replay) 15) ≡ 0
+    go true z k = absurd (omega arith)
+    go false z (goes n f) = n
+    go false z (stops n f) = absurd (n (record-stops s g refl n ∙ z))
+
 -- A call that is refused.
-abbrev not-told : Running → ℕ → List ℕ → Told
+abbrev pub not-told : Running → ℕ → List ℕ → Told
 not-told s q out = record { state = s; answer = refused q; out = out }
 
 refused-by : (s : Running) (out : List ℕ) (t : Told) {q : ℕ} → (q ≡ 0 → ⊥) → q ≡ refusal (checks s out) → not-told s q out ≡ unlessRefused (refusal (checks s out)) s out t
@@ -123,7 +133,7 @@ module _ (s : Running) (piece out : List ℕ) where
   unfolding feed refusal
   feed-over r o = rw (le-ltb (length out) 256 r, o)
 
-  feed-done : 256 ≤ length out → s .over ≡ false → 0 ≡ refusal (recordChecks s) → fed s piece out ≡ feed s piece out
+  pub feed-done : 256 ≤ length out → s .over ≡ false → 0 ≡ refusal (recordChecks s) → fed s piece out ≡ feed s piece out
   unfolding feed
   feed-done r g e =
       let z : fed s piece out ≡ cond (s .over) (says s (length piece) [] out) (fed s piece out) = rw g in
@@ -302,7 +312,7 @@ module _ (many : ℕ) (satellite week time out : List ℕ) where
   unfolding begin refusal
   begin-short {x} e h = ap (λ (y : Running). not-told y 1 out) (e ∙ fresh-none false) ∙ rw (lt-ltb (length out) 256 h)
 
-  begun-is : 256 ≤ length out → begun (argumentsAnswer many satellite week time) out ≡ begin many satellite week time out
+  pub begun-is : 256 ≤ length out → begun (argumentsAnswer many satellite week time) out ≡ begin many satellite week time out
   unfolding begin refusal
   begun-is h = rw (le-ltb (length out) 256 h)
 
@@ -329,14 +339,14 @@ module _ (l : Listing) (h m d page : List ℕ) (done : Replayed) {x y z : List �
       let s = asked-same (state l h m d) page g e in
       (ap (λ (t : State). t .subframes .hkroot) s, ap (λ (t : State). t .subframes .mack) s, ap (λ (t : State). t .dsms .memory) s)
 
-  pub refuses-first : {n : ℕ} → done .answer ≡ ReplayRefused n → (n ≡ refusal (recordChecks (state l h m d))) × (x ≡ h) × (y ≡ m) × (z ≡ d)
-  refuses-first a = (asked-refused (state l h m d) page g e (ap meaning-replay a) .0, still .0, still .1, still .2)
+  pub refuses-first : {n : ℕ} → done .answer ≡ ReplayRefused n → (n ≡ refusal (recordChecks (state l h m d))) × ((x ≡ h) × (y ≡ m) × (z ≡ d))
+  refuses-first a = (asked-refused (state l h m d) page g e (ap meaning-replay a) .0, still)
 
-  pub refuses-high : {n : ℕ} → done .answer ≡ Consumed n → 29 < l .held → (12 ≡ refusal (recordChecks (state l h m d))) × (x ≡ h) × (y ≡ m) × (z ≡ d)
-  refuses-high a k = (asked-high (state l h m d) page g e (ap meaning-replay a) k, still .0, still .1, still .2)
+  pub refuses-high : {n : ℕ} → done .answer ≡ Consumed n → 29 < l .held → (12 ≡ refusal (recordChecks (state l h m d))) × ((x ≡ h) × (y ≡ m) × (z ≡ d))
+  refuses-high a k = (asked-high (state l h m d) page g e (ap meaning-replay a) k, still)
 
-  pub refuses-none : {n : ℕ} → done .answer ≡ Consumed n → l .held ≤ 29 → (0 ≡ refusal (recordChecks (state l h m d))) × (x ≡ h) × (y ≡ m) × (z ≡ d)
-  refuses-none a k = (asked-none (state l h m d) page g e (ap meaning-replay a) k, still .0, still .1, still .2)
+  pub refuses-none : {n : ℕ} → done .answer ≡ Consumed n → l .held ≤ 29 → (0 ≡ refusal (recordChecks (state l h m d))) × ((x ≡ h) × (y ≡ m) × (z ≡ d))
+  refuses-none a k = (asked-none (state l h m d) page g e (ap meaning-replay a) k, still)
 
 -- Refused with the memory as it was.
 module _ (l : Listing) (h m d out : List ℕ) {q : ℕ} {x y z : List ℕ} (r : 256 ≤ length out) (e : q ≡ refusal (recordChecks (state l h m d))) (f : (x ≡ h) × (y ≡ m) × (z ≡ d)) where

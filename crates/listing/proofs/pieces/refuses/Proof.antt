@@ -31,7 +31,7 @@ returns c =
     let p = c .before .before .before .before .before .before .before .before .before .before .replay in
     let s = c .before .before .before .before .before .before .before .before .before .before .before .before .before .before .before .before .before .before .before .before in
     let a = s .args in
-    refuses-high (a .listing) (a .hkroot .now) (a .mack .now) (a .dsm .now) (a .listing .page) (p .result) (s .pre) (p .ensures) (c .before .before .enum-told .given) (c .if1 .taken)
+    refuses-high (a .listing) (a .hkroot .now) (a .mack .now) (a .dsm .now) (a .listing .page) (p .result) (s .pre) (p .ensures) (c .before .before .enum-told .given .1) (c .if1 .taken)
 
 same-length-4 : tie.Need-same-length-4
 same-length-4 c = search needs
@@ -47,7 +47,7 @@ returns-2 c =
     let p = c .before .before .before .before .before .before .before .before .before .replay in
     let s = c .before .before .before .before .before .before .before .before .before .before .before .before .before .before .before .before .before .before .before in
     let a = s .args in
-    refuses-first (a .listing) (a .hkroot .now) (a .mack .now) (a .dsm .now) (a .listing .page) (p .result) (s .pre) (p .ensures) (c .before .answer .given)
+    refuses-first (a .listing) (a .hkroot .now) (a .mack .now) (a .dsm .now) (a .listing .page) (p .result) (s .pre) (p .ensures) (c .before .answer .given .1)
 
 same-length-7 : tie.Need-same-length-7
 same-length-7 c = search needs
@@ -63,7 +63,7 @@ returns-3 c =
     let p = c .before .before .before .before .before .before .before .before .before .before .replay in
     let s = c .before .before .before .before .before .before .before .before .before .before .before .before .before .before .before .before .before .before .before .before in
     let a = s .args in
-    refuses-none (a .listing) (a .hkroot .now) (a .mack .now) (a .dsm .now) (a .listing .page) (p .result) (s .pre) (p .ensures) (c .before .before .enum-told .given) (c .if1 .left)
+    refuses-none (a .listing) (a .hkroot .now) (a .mack .now) (a .dsm .now) (a .listing .page) (p .result) (s .pre) (p .ensures) (c .before .before .enum-told .given .1) (c .if1 .left)
 
 pub refuses-spec : {M : Type 1} → statement M
 refuses-spec =
