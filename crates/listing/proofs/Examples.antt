@@ -15,6 +15,7 @@ use Rattle.texts.specs.Decimal.{only, numberBehind, spelt, digits}
 use Rattle.texts.specs.Lines.{bytes, line}
 use Rattle.listing.specs.Listing.{pageLines}
 use Rattle.listing.specs.Examples.{Fifteen, Refused, Few, Examples}
+use Rattle.listing.proofs.KrootExample.{kroot}
 
 fifteen : Fifteen
 unfolding
@@ -44,4 +45,4 @@ unfolding pageLines line bytes digits spelt only numberBehind refusal answered p
 few = record { no-pages = refl; tail-alone = refl }
 
 pub examples : Examples
-examples = record { fifteen = fifteen;  refused = refused; few = few }
+examples = record { fifteen = fifteen; kroot = kroot; refused = refused; few = few }

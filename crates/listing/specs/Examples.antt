@@ -6,7 +6,7 @@ use mathlib.Core.List.{List, [], _∷_, _++_}
 use mathlib.Core.Path.{_≡_}
 use lib.ListN.{replicate}
 use Rattle.texts.specs.Lines.{bytes}
-use Rattle.listing.specs.Listing.{listing, tells, asked}
+use Rattle.listing.specs.Listing.{listing}
 
 -- texts, each followed by a newline
 abbrev pub lines : List String → List ℕ
@@ -44,11 +44,15 @@ kroot zero k = []
 kroot (suc n) k = pages (hkroot k 16) ++ kroot n (k + 1)
 
 -- seven subframes, the seventh of which completes the DSM, over the end of a week; then a page that is skipped, and 4 bytes
-abbrev pub KrootTold : Type 0
-KrootTold =
-    tells (asked (texts ("1" ∷ "4095" ∷ "604650" ∷ []))) (kroot 7 0 ++ (replicate 30 255 ++ replicate 4 0))
-    ≡ lines
-    ("S 1 4095 604650" ∷
+abbrev pub krootArguments : List (List ℕ)
+krootArguments = texts ("1" ∷ "4095" ∷ "604650" ∷ [])
+
+abbrev pub krootInput : List ℕ
+krootInput = kroot 7 0 ++ (replicate 30 255 ++ replicate 4 0)
+
+abbrev pub krootLines : List String
+krootLines =
+    "S 1 4095 604650" ∷
     "S 1 4095 604680" ∷
     "S 1 4095 604710" ∷
     "S 1 4095 604740" ∷
@@ -56,7 +60,13 @@ KrootTold =
     "S 1 0 0" ∷
     "S 1 0 30" ∷
     "D 2 91" ∷
-    [])
+    []
+
+abbrev pub krootTotals : String
+krootTotals = "pages 106 skipped 1 subframes 7 dsms 1 tail 4"
+
+abbrev pub Kroot : Type 0
+Kroot = listing krootArguments krootInput ≡ lines krootLines ++ lines (krootTotals ∷ [])
 
 -- "a missing, extra or non-decimal one .. is 7, tested before all else here; digits of any length that exceed a range are 2, 3 or 4": whatever the input
 pub record Refused (input : List ℕ) : Type 0 where
@@ -78,5 +88,6 @@ pub record Few : Type 0 where
 
 pub record Examples : Type 0 where
   pub fifteen : Fifteen
+  pub kroot : Kroot
   pub refused : (input : List ℕ) → Refused input
   pub few : Few

@@ -54,13 +54,7 @@ fn none(satellite: u8, week: u16, time: u32, over: bool) -> Listing
 }
 
 // Begins a listing from how many arguments there are and the first three, with a lent output of 256 bytes at least, else 1. Where the arguments are refused that is written, and the listing is over.
-pub fn begin(
-    many: usize,
-    satellite: &[u8],
-    week: &[u8],
-    time: &[u8],
-    out: &mut [u8],
-) -> ListingStep
+pub fn begin(many: usize, satellite: &[u8], week: &[u8], time: &[u8], out: &mut [u8]) -> ListingStep
     ensures { λ r. ⌜ BeginListing many (now (satellite .entry)) (now (week .entry)) (now (time .entry)) (now (out .entry)) r (now (out .exit)) ⌝ }
 {
     if out.len() < 256 {

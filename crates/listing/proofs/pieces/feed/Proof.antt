@@ -11,7 +11,7 @@ returns : tie.Need-returns
 returns c = search feed-short
 
 returns-2 : tie.Need-returns-2
-returns-2 c = 
+returns-2 c =
     let a = c .before .before .before .before .before .before .before .args in
     feed-over (state (a .listing) (a .hkroot .now) (a .mack .now) (a .dsm .now)) (a .piece .now) (a .out .now) (c .before .if1 .left) (c .if2 .taken)
 
@@ -28,7 +28,7 @@ same-length-3 : tie.Need-same-length-3
 same-length-3 c = search needs
 
 returns-3 : tie.Need-returns-3
-returns-3 c = 
+returns-3 c =
     let p = c .before .before .before .before .before .before .refuses in
     let t = c .before .before .before .before .before .before .before .before .before .before in
     let a = c .before .before .before .before .before .before .before .before .before .before .before .before .before .before .before .before .before .before .before .args in

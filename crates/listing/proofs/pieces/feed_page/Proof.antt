@@ -26,7 +26,7 @@ array-share-prefix-page : tie.Need-array-share-prefix-page
 array-share-prefix-page c = search needs
 
 slice-aggregate-replay : tie.Need-slice-aggregate-replay
-slice-aggregate-replay c = 
+slice-aggregate-replay c =
     let f = c .before .before .before .before in
     let s = f .before .before .before .before .before .before .before .before .before in
     sym (length-take-le (s .args .listing .held + f .before .smaller .result) (f .fill .result) (search needs))
@@ -50,7 +50,7 @@ same-length-4 : tie.Need-same-length-4
 same-length-4 c = search needs
 
 returns : tie.Need-returns
-returns c = 
+returns c =
     let t = c .before .before in
     let p = t .before .before .before .before .before .before .before .before .replay in
     let f = t .before .before .before .before .before .before .before .before .before .before .before .before .before in

@@ -33,7 +33,7 @@ same-length-4 : tie.Need-same-length-4
 same-length-4 c = search needs
 
 returns : tie.Need-returns
-returns c = 
+returns c =
     let t = c .before .before in
     let p = t .before .before .before .before .before .before .before .before .replay in
     let q = t .before .before .before .before .before .before .before .before .before .before .before .before in

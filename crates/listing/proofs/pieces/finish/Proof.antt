@@ -10,7 +10,7 @@ returns : tie.Need-returns
 returns c = search finish-short
 
 returns-2 : tie.Need-returns-2
-returns-2 c = 
+returns-2 c =
     let a = c .before .before .before .before .before .before .args in
     finish-over (state (a .listing) (a .hkroot .now) (a .mack .now) (a .dsm .now)) (a .out .now) (c .before .if1 .left) (c .if2 .taken)
 
@@ -27,7 +27,7 @@ same-length-3 : tie.Need-same-length-3
 same-length-3 c = search needs
 
 returns-3 : tie.Need-returns-3
-returns-3 c = 
+returns-3 c =
     let p = c .before .before .before .before .before .before .before .refuses in
     let a = c .before .before .before .before .before .before .before .before .before .before .before .before .before .before .before .before .before .args in
     finish-stopped (a .listing) (a .hkroot .now) (a .mack .now) (a .dsm .now) (a .out .now) (c .before .before .before .before .before .before .before .before .before .before .before .before .if1 .left) (p .ensures .0) (p .ensures .1) (c .if3 .taken)
@@ -48,7 +48,7 @@ same-length-7 : tie.Need-same-length-7
 same-length-7 c = search needs
 
 returns-4 : tie.Need-returns-4
-returns-4 c = 
+returns-4 c =
     let p = c .before .before .before .before .before .before .before .before .before .before .before .before .refuses in
     let a = c .before .before .before .before .before .before .before .before .before .before .before .before .before .before .before .before .before .before .before .before .before .before .args in
     finish-told (a .listing) (a .hkroot .now) (a .mack .now) (a .dsm .now) (a .out .now) (c .before .before .before .before .before .before .before .before .before .before .before .before .before .before .before .before .before .if1 .left) (p .ensures .0) (p .ensures .1) (c .before .before .before .before .before .if3 .left) (c .before .before .before .before .before .before .before .before .before .before .before .before .before .before .before .before .if2 .left)
