@@ -18,7 +18,8 @@ use Rattle.subframes.specs.SubframePromises.{state, meaning-subframe, me
 use Rattle.subframes.specs.TracePromises.{outcome-all, FeedAll}
 use Rattle.subframes.specs.SubframeRecovery.{isAdmitted, before, run, after, noPage, hasWord, Words, ComesOut, Alike, Viewed, Recovers}
 use Rattle.subframes.specs.SubframeHistory.{Call, one, many, Misfit, History, begun, called, misfit, looked, ShowsPair, ShowsNone, FeedRecovers}
-use Rattle.subframes.specs.SubframeHistory.{FeedAllRecovers, MisfitRefused, CodeRecovers, AnyPages, wordPage, wordsFrom, shortPage, WordsExample, SmallestCase}
+use Rattle.subframes.specs.SubframeHistory.{FeedAllRecovers, MisfitRefused, CodeRecovers, AnyPages}
+use Rattle.subframes.specs.SubframeHistory.{wordPage, wordsFrom, shortPage, WordsExample, SmallestCase}
 use Rattle.runs.proofs.Rising.{reaches}
 use Rattle.subframes.specs.declared.subframe.CollectSubframe.{CollectSubframe}
 use Rattle.subframes.specs.declared.subframe.SubframeAnswer.{SubframeAnswer}
