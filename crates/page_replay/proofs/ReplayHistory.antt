@@ -27,18 +27,19 @@ use Rattle.dsms.proofs.DsmRecovery.{dsm-recovers}
 use Rattle.dsms.proofs.DsmSound.{Sound as Gathering}
 use Rattle.dsms.proofs.DsmUnique.{back-state as back-dsm}
 use Rattle.dsms.specs.DsmRecovery.{Call as Block, isAdmitted as isAdmittedBlock, after as afterBlocks}
-use Rattle.page_replay.specs.Replay.{Time, Dsm, Totals, State, new, Begun, Run, skipped, replayed, pagesOf, wholePages, consumed, most, areFew}
+use Rattle.page_replay.specs.Replay.{noTotals, start, Time, Dsm, Totals, State, new, Begun, Run, skipped, replayed, pagesOf, wholePages, consumed}
+use Rattle.page_replay.specs.Replay.{most, areFew}
 use Rattle.page_replay.specs.Replay.{replayChecks, Outcome, replay}
-use Rattle.page_replay.specs.Pieces.{followedBy, Call, answeredTo, reported as reported-answer}
+use Rattle.page_replay.specs.Pieces.{followedBy, Call, answeredTo, reported}
 use Rattle.page_replay.specs.ReplayPromises.{state, outcome, meaning-replay, meaning-subframes, meaning-dsms, ReplayPages}
-use Rattle.page_replay.specs.ReplayHistory.{Beginning, reported, Misfit, History, begun, called, misfit, fedFrom, blocksFrom, subframesFrom}
+use Rattle.page_replay.specs.ReplayHistory.{Beginning, Misfit, History, begun, called, misfit, fedFrom, blocksFrom, subframesFrom}
 use Rattle.page_replay.specs.ReplayHistory.{dsmsFrom, firstSubframes, firstDsms, pagesFed, blocksFed, ReplayRecovers, refusedStart, CallsAnswered}
 use Rattle.page_replay.specs.ReplayHistory.{Unchanged, RefusedChangesNothing, MisfitIsRefused}
 use Rattle.page_replay.specs.declared.replay.PageReplay.{PageReplay}
 use Rattle.page_replay.specs.declared.replay.ReplayAnswer.{ReplayAnswer}
-use Rattle.page_replay.specs.declared.replay.ReplayAnswer.the-variants.{Refused, Consumed}
+use Rattle.page_replay.specs.declared.replay.ReplayAnswer.the-variants.{Refused}
 use Rattle.page_replay.specs.declared.replay.Replayed.{Replayed}
-use Rattle.page_replay.proofs.PagePieces.{Good, start, good-onward, zeros-small, admitted-call, high-budget-7, split-anywhere, call-consumes}
+use Rattle.page_replay.proofs.PagePieces.{Good, good-onward, zeros-small, admitted-call, high-budget-7, split-anywhere, call-consumes}
 use Rattle.page_replay.proofs.PageRefusals.{other-dsm-bytes, other-subframes, other-place, replay-refused, replay-done}
 use Rattle.page_replay.proofs.ReplayUnique.{back-answer, back-subframes, back-dsms, back-state, undo-answer, undo-subframes, undo-dsms}
 use Rattle.subframes.proofs.Pages.{other-hkroot, other-mack}
@@ -113,17 +114,13 @@ first b = state (b .replay) (b .hkroot) (b .mack) (b .memory)
 abbrev pub held : PageReplay → List ℕ → List ℕ → List ℕ → List Time → List Dsm → Run
 held c hkroot mack memory subframes dsms = record { state = state c hkroot mack memory; subframes = subframes; dsms = dsms }
 
-same-number : (a : ReplayAnswer) → reported a ≡ reported-answer (meaning-replay a)
-same-number (Refused n) = refl
-same-number (Consumed n) = refl
-
 called-run : (c : PageReplay) (h m d bytes : List ℕ) (budget : ℕ) (r : Replayed) (h′ m′ d′ : List ℕ) → ReplayPages c h m d bytes budget r h′ m′ d′
-    → held (r .replay) h′ m′ d′ (meaning-subframes (r .subframe)) (meaning-dsms (r .dsm)) ≡ replayed (state c h m d) (pagesOf (reported (r .answer)) bytes)
+    → held (r .replay) h′ m′ d′ (meaning-subframes (r .subframe)) (meaning-dsms (r .dsm))
+    ≡ replayed (state c h m d) (pagesOf (reported (meaning-replay (r .answer))) bytes)
 called-run c h m d bytes budget r h′ m′ d′ e =
     let s : State = state c h m d in
     let call : Call = record { bytes = bytes; budget = budget } in
-    let number : reported (r .answer) ≡ reported-answer (answeredTo s call .answer) =
-    same-number (r .answer) ∙ ap (λ (o : Outcome). reported-answer (o .answer)) e in
+    let number : reported (meaning-replay (r .answer)) ≡ reported (answeredTo s call .answer) = ap (λ (o : Outcome). reported (o .answer)) e in
     ap (λ (o : Outcome). record { state = o .state; subframes = o .subframes; dsms = o .dsms }) e ∙ call-consumes s call
     ∙ ap (λ (k : ℕ). replayed s (pagesOf k bytes)) (sym number)
 
@@ -132,7 +129,7 @@ pub reached : {b : Beginning} {c : PageReplay} {h m d : List ℕ} {pages : List 
 unfolding replayed
 reached (begun satellite week time a e lh lm ld) = refl
 reached {b} (called {c = c} {hkroot = h} {mack = m} {memory = d} {pages = pages} {subframes = subframes} {dsms = dsms} k bytes budget r h′ m′ d′ e) =
-    let qs : List (List ℕ) = pagesOf (reported (r .answer)) bytes in
+    let qs : List (List ℕ) = pagesOf (reported (meaning-replay (r .answer))) bytes in
     ap (followedBy (held c h m d subframes dsms)) (called-run c h m d bytes budget r h′ m′ d′ e)
     ∙ ap (λ (x : Run). followedBy x (replayed (x .state) qs)) (reached k)
     ∙ sym (split-anywhere (first b) pages qs)
@@ -145,9 +142,6 @@ reached {b} (misfit {c = c} {x = x} {y = y} {z = z} {pages = pages} {subframes =
     ∙ reached k
 
 -- It began with two new collectors.
-abbrev noTotals : Totals
-noTotals = record { pages = 0; skipped = 0; used = 0; unused = 0; subframes = 0; dsms = 0 }
-
 begun-state : (satellite week time : ℕ) → (Replay.begun satellite week time [] [] [] .state .subframes ≡ newSubframes [] [])
     × (Replay.begun satellite week time [] [] [] .state .dsms ≡ newDsms []) × (Replay.begun satellite week time [] [] [] .state .totals ≡ noTotals)
 unfolding Replay.begun
@@ -243,7 +237,7 @@ unfolding pagesOf
 never (begun satellite week time a e lh lm ld) ne = refl
 never (called {pages = pages} k bytes budget r h′ m′ d′ e) ne =
     let none : pages ≡ [] = never k ne in
-    ap (λ (a : ReplayAnswer). pages ++ pagesOf (reported a) bytes) (stuck k none ne bytes budget r h′ m′ d′ e) ∙ append-nil pages ∙ none
+    ap (λ (a : ReplayAnswer). pages ++ pagesOf (reported (meaning-replay a)) bytes) (stuck k none ne bytes budget r h′ m′ d′ e) ∙ append-nil pages ∙ none
 never (misfit hkroot mack memory k w bytes budget r x′ y′ z′ e) ne = never k ne
 
 numbered : (s : State) (n : ℕ) (bytes : List ℕ) (budget : ℕ) → Good s n → n ≤ most
