@@ -19,7 +19,7 @@ use Rattle.subframes.specs.TracePromises.{outcome-all, FeedAll}
 use Rattle.subframes.specs.SubframeRecovery.{isAdmitted, before, run, after, noPage, hasWord, Words, ComesOut, Alike, Viewed, Recovers}
 use Rattle.subframes.specs.SubframeHistory.{Call, one, many, Misfit, History, begun, called, misfit, looked, ShowsPair, ShowsNone, FeedRecovers}
 use Rattle.subframes.specs.SubframeHistory.{FeedAllRecovers, MisfitRefused, CodeRecovers, AnyPages}
-use Rattle.subframes.specs.SubframeHistory.{wordPage, wordsFrom, shortPage, WordsExample, SmallestCase}
+use Rattle.subframes.specs.SubframeHistory.{wordPage, wordsFrom, shortPage, WordsExample, RefusedCalls, SmallestCase}
 use Rattle.runs.proofs.Rising.{reaches}
 use Rattle.subframes.specs.declared.subframe.CollectSubframe.{CollectSubframe}
 use Rattle.subframes.specs.declared.subframe.SubframeAnswer.{SubframeAnswer}
@@ -377,6 +377,11 @@ words-example =
       fifteen = reaches (hasWord 7) noPage (run (wordsFrom 0 15)) 0 15 .0 (omega arith);
       fourteen = λ w. absurd (omega (arith, reaches (hasWord 7) noPage (run (wordsFrom 0 14)) 0 15 .1 w));
     }
+
+-- Refused calls, computed.
+pub refused-calls : RefusedCalls
+unfolding feed feedAll refusal small
+refused-calls = record { four-bytes = refl; satellite-37 = refl; thirteen-bytes = refl; lent-539 = refl }
 
 -- Words 0 to 6, a call that lends 539 bytes, words 7 to 14.
 fourteen-then : (f : Fed) → Alike f (feed (after (new (replicate 540 0) (replicate 2160 0)) (before (run (wordsFrom 0 14)) (wordPage 14))) (wordPage 14))

@@ -7,12 +7,13 @@ use mathlib.Core.List.{List, [], _∷_, _++_}
 use mathlib.Core.Bool.{true, false}
 use mathlib.Core.Path.{_≡_}
 use lib.ListN.{length, getD, take, replicate}
-use Rattle.layouts.specs.Answer.{nothing, refusal}
+use Rattle.layouts.specs.Answer.{refused, nothing, refusal}
 use Rattle.layouts.specs.Gst.{svnChecks}
-use Rattle.subframes.specs.Subframe.{Page, Fed}
-use Rattle.subframes.specs.Trace.{entries}
+use Rattle.subframes.specs.Subframe.{State, new, Page, Fed, feed}
+use Rattle.subframes.specs.Trace.{entries, feedAll}
 use Rattle.subframes.specs.SubframePromises.{state, call, meaning-subframe, outcome, sizeOf}
 use Rattle.subframes.specs.SubframePromises.{NewSubframe, FeedSubframe, IsUsed, ViewSubframeShown, ViewSubframe, HkrootMessageRead}
+use Rattle.subframes.specs.SubframeUsed.{newOne}
 use Rattle.subframes.specs.TracePromises.{FeedAll}
 use Rattle.subframes.specs.SubframeRecovery.{isAdmitted, before, run, after, noPage, hasWord, Words, hkrootOf, mackOf, Alike, Recovers}
 use Rattle.runs.specs.Rising.{Earliest}
@@ -155,10 +156,21 @@ wordsFrom word (suc n) = wordPage word ∷ wordsFrom (suc word) n
 abbrev pub shortPage : Page
 shortPage = call (replicate 4 0) 7 1200 74
 
+-- a new collector's record, and so many HKROOT bytes lent
+abbrev pub lentOf : ℕ → State
+lentOf n = new (replicate n 0) (replicate 2160 0)
+
 -- Fifteen of them contain words 0 to 14 in that order, fourteen do not.
 pub record WordsExample : Type 0 where
   pub fifteen : Words 7 (run (wordsFrom 0 15))
   pub fourteen : Words 7 (run (wordsFrom 0 14)) → ⊥
+
+-- Refused calls of each kind, at a new collector: each gets its number and changes nothing.
+pub record RefusedCalls : Type 0 where
+  pub four-bytes : feed newOne shortPage ≡ record { state = newOne; answer = refused 1 }
+  pub satellite-37 : feed newOne (call (replicate 5 0) 37 1200 60) ≡ record { state = newOne; answer = refused 2 }
+  pub thirteen-bytes : feedAll newOne (replicate 13 0) ≡ record { state = newOne; answer = refused 1; consumed = 0 }
+  pub lent-539 : feed (lentOf 539) (wordPage 0) ≡ record { state = lentOf 539; answer = refused 1 }
 
 -- The smallest case of a refused call in the middle: words 0 to 6, one call that lends 539 HKROOT bytes, words 7 to 14. The pair comes out.
 pub record SmallestCase : Type 0 where
