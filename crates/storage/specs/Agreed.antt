@@ -1,4 +1,4 @@
--- Document 01, "How far each promise reaches": any two answers that meet a promise of the MACK store agree, with the record and every lent byte.
+-- Document 01, "How far each promise reaches": "show that any two answers satisfying it agree". A line for each public function: answer, record and lent bytes.
 -- Assumes nothing.
 use mathlib.Core.List.{List}
 use Prim.Native.Nat.{ℕ}

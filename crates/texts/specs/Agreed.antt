@@ -1,4 +1,4 @@
--- Document 01, "How far each promise reaches": any two answers that meet a promise of `texts` agree, with every lent byte.
+-- Document 01, "How far each promise reaches": "show that any two answers satisfying it agree". A line for each public function: answer and lent bytes.
 -- Assumes nothing.
 use Prim.Native.Nat.{ℕ}
 use mathlib.Core.List.{List}
