@@ -17,12 +17,14 @@ use Rattle.subframes.specs.Subframe.{Page, State as Subframes, new as newSubfra
 use Rattle.subframes.specs.SubframePromises.{call, state as subframeState}
 use Rattle.subframes.specs.SubframeHistory.{History as SubframeHistory, begun as pages-begun}
 use Rattle.subframes.proofs.SubframeUnique.{back-state as back-collector}
+use Rattle.subframes.proofs.SubframeHistory.{code-recovers as pages-recover}
 use Rattle.subframes.proofs.SubframeRecovery.{subframes-recover}
 use Rattle.subframes.proofs.SubframeSound.{Sound as Collecting, sound-admitted}
 use Rattle.subframes.specs.SubframeRecovery.{after as afterPages}
 use Rattle.dsms.specs.Dsm.{State as Dsms, new as newDsms}
 use Rattle.dsms.specs.DsmPromises.{state as dsmState}
 use Rattle.dsms.specs.DsmHistory.{History as DsmHistory, begun as blocks-begun}
+use Rattle.dsms.proofs.DsmHistory.{code-recovers as blocks-recover}
 use Rattle.dsms.proofs.DsmRecovery.{dsm-recovers}
 use Rattle.dsms.proofs.DsmSound.{Sound as Gathering}
 use Rattle.dsms.proofs.DsmUnique.{back-state as back-dsm}
@@ -291,6 +293,14 @@ replay-recovers b c h m d pages subframes dsms k =
     let blocks-in : dsmState (c .dsms) d ≡ afterBlocks (firstDsms b) (blocksFed b pages) =
     ap (λ (r : Run). r .state .dsms) e ∙ f .dsms-is ∙ ap (afterBlocks (first b .dsms)) blocks
     ∙ ap (λ (s : Dsms). afterBlocks s (blocksFed b pages)) (n .new-dsms) in
+    let own-pages : SubframeHistory (c .subframes) h m (pagesFed b pages) =
+    subst⁻¹ (λ (s : Subframes). SubframeHistory (back-collector s) (s .hkroot) (s .mack) (pagesFed b pages)) pages-in
+    (pages-called (pagesFed b pages)
+    (pages-begun (record { week = 0; subframe = 0; counts = replicate 36 0 }) (b .hkroot) (b .mack) refl (n .h540) (n .m2160))) in
+    let own-blocks : DsmHistory (c .dsms) d (blocksFed b pages) =
+    subst⁻¹ (λ (s : Dsms). DsmHistory (back-dsm s) (s .memory) (blocksFed b pages)) blocks-in
+    (blocks-called (blocksFed b pages)
+    (blocks-begun (record { id = 0; came = false; held = replicate 16 false; done = false }) (b .memory) refl (n .d208))) in
     record {
       one-run = e;
       subframes-are = pages-in;
@@ -307,12 +317,9 @@ replay-recovers b c h m d pages subframes dsms k =
           (blocks-fit (pagesFed b pages) (firstSubframes b) (sound-new b n) (pages-fit k)));
       page-recovers = λ ps qs p g. subframes-recover (b .hkroot) (b .mack) (n .h540) (n .m2160) ps p;
       block-recovers = λ cs es x g. dsm-recovers (b .memory) (n .d208) cs x;
-      subframe-history =
-          subst⁻¹ (λ (s : Subframes). SubframeHistory (back-collector s) (s .hkroot) (s .mack) (pagesFed b pages)) pages-in
-          (pages-called (pagesFed b pages)
-          (pages-begun (record { week = 0; subframe = 0; counts = replicate 36 0 }) (b .hkroot) (b .mack) refl (n .h540) (n .m2160)));
-      dsm-history =
-          subst⁻¹ (λ (s : Dsms). DsmHistory (back-dsm s) (s .memory) (blocksFed b pages)) blocks-in
-          (blocks-called (blocksFed b pages)
-          (blocks-begun (record { id = 0; came = false; held = replicate 16 false; done = false }) (b .memory) refl (n .d208)));
+      subframe-history = own-pages;
+      dsm-history = own-blocks;
+      shows-pair = pages-recover .shows-pair own-pages;
+      shows-none = pages-recover .shows-none own-pages;
+      shows-dsm = blocks-recover .shows own-blocks;
     }

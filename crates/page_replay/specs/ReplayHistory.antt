@@ -13,12 +13,13 @@ use Rattle.layouts.specs.Gst.{svnGstChecks}
 use Rattle.layouts.specs.InavPage.{isCounted, osnma}
 use Rattle.subframes.specs.Subframe.{Page, State as Subframes, new as newSubframes, feed as feedPage}
 use Rattle.subframes.specs.SubframePromises.{state as subframeState}
-use Rattle.subframes.specs.SubframeRecovery.{isAdmitted as isAdmittedPage, after as afterPages, run as runOfPages, Recovers as PageRecovers}
-use Rattle.subframes.specs.SubframeHistory.{History as SubframeHistory}
+use Rattle.subframes.specs.SubframeRecovery.{isAdmitted as isAdmittedPage, after as afterPages, run as runOfPages, Words, Recovers as PageRecovers}
+use Rattle.subframes.specs.SubframeHistory.{History as SubframeHistory, ShowsPair, ShowsNone}
+use Rattle.subframes.specs.declared.subframe.SubframeShown.the-variants.{Nothing}
 use Rattle.dsms.specs.Dsm.{State as Dsms, new as newDsms}
 use Rattle.dsms.specs.DsmPromises.{state as dsmState}
 use Rattle.dsms.specs.DsmRecovery.{Call as Block, isAdmitted as isAdmittedBlock, fedTo, after as afterBlocks, run as runOfBlocks, Recovers as BlockRecovers}
-use Rattle.dsms.specs.DsmHistory.{History as DsmHistory}
+use Rattle.dsms.specs.DsmHistory.{History as DsmHistory, Shows as ShowsDsm}
 use Rattle.page_replay.specs.Replay.{Time, later, Dsm, Run, hkrootOf, subframesIn, dsmsIn, pagesOf, wholePages, most, replayed}
 use Rattle.page_replay.specs.Pieces.{reported, goodPage}
 use Rattle.page_replay.specs.ReplayPromises.{state, meaning-replay, meaning-subframes, meaning-dsms, BeginReplay, ReplayPages}
@@ -126,9 +127,15 @@ pub record Recovered (b : Beginning) (c : PageReplay) (hkroot mack memory : List
   pub block-recovers : (cs es : List Block) (d : Block) → blocksFed b pages ≡ cs ++ (d ∷ es)
       → let s = afterBlocks (firstDsms b) cs in BlockRecovers s (runOfBlocks cs) d (fedTo s d)
   -- the record's collectors and the memory are what histories of the collectors' own calls leave, so that all that `CodeRecovers` of `subframes` and of
-  -- `dsms` say holds of them: what their viewers show, and what they answer next
+  -- `dsms` say holds of them
   pub subframe-history : SubframeHistory (c .subframes) hkroot mack (pagesFed b pages)
   pub dsm-history : DsmHistory (c .dsms) memory (blocksFed b pages)
+  -- among it what their viewers show: a satellite's pair from the earliest choice where its words are there, and the DSM of the last run where it is whole
+  pub shows-pair : (satellite : ℕ) → 1 ≤ satellite → satellite ≤ 36 → Words satellite (runOfPages (pagesFed b pages))
+      → ShowsPair (c .subframes) hkroot mack (runOfPages (pagesFed b pages)) satellite
+  pub shows-none : (satellite : ℕ) → 1 ≤ satellite → satellite ≤ 36 → (Words satellite (runOfPages (pagesFed b pages)) → ⊥)
+      → ShowsNone (c .subframes) hkroot mack satellite Nothing
+  pub shows-dsm : ShowsDsm (c .dsms) memory (runOfBlocks (blocksFed b pages))
 
 abbrev pub ReplayRecovers : Type 0
 ReplayRecovers =
