@@ -29,7 +29,8 @@ use Rattle.layouts.specs.declared.maclt.MacLTSlotAnswer.{MacLTSlotAnswer}
 use Rattle.layouts.specs.declared.maclt.MacLTSlotAnswer.the-variants.{Slot as SlotIs, Refused as SlotRefused}
 use Rattle.firmware.specs.Outcome.{One, one, Told, Two, two, Placed, slot, Slotted, Bytes, bytes, Counted, counted}
 use Rattle.layouts.specs.Maclt.{Row, row, table, rowOf, entry, flxIndices, ntOf}
-use Rattle.firmware.specs.Arguments.{ofHeader, SameId}
+use Rattle.firmware.specs.Arguments.{ofHeader}
+use Rattle.firmware.specs.inner.Ids.{SameId}
 
 -- the answer is what the reader's promise says
 pub told-by : (b : ℕ) {x a : Answer} {o : One} → x ≡ a → o ≡ one b x → o ≡ one b a
