@@ -8,7 +8,7 @@ use native.Mathlib.Nat.{zero-add, suc-add}
 use native.Mathlib.Numerals.{add-one}
 use native.Mathlib.Omega.{arith}
 use lib.Dec.{ltb, eqb}
-use lib.ListN.{length, getD, set, replicate, take}
+use lib.ListN.{length, getD, set, take}
 use borrow.Author.Tests.{eqb-true, eqb-false, lt-ltb, le-ltb, eq-eqb, ne-eqb, not-true, not-false}
 use Rattle.layouts.specs.Lists.{put, all}
 use Rattle.layouts.specs.Answer.{Answer, refused, nothing, gives, refusal, shown}

@@ -7,7 +7,7 @@ use mathlib.Core.List.{List, [], _∷_, _++_, append-nil, append-assoc}
 use mathlib.Core.Bool.{Bool, true, false, cond, not, _&&_}
 use lib.Dec.{ltb, eqb}
 use lib.ListN.{length, replicate}
-use denote.Ref.{RefT, now}
+use denote.Ref.{now}
 use Rattle.layouts.specs.Answer.{Answer, refused, nothing, gives, shown, refusal}
 use Rattle.layouts.specs.Meaning.{meaning-type}
 use Rattle.layouts.specs.DsmHeader.{dsmType}
@@ -17,8 +17,8 @@ use Rattle.layouts.specs.Sizes.{krootBlocks}
 use Rattle.layouts.specs.declared.dsm_header.DsmType.the-variants.{Kroot}
 use Rattle.dsms.specs.Dsm.{State, new, Fed, idOf, blockOf, feedChecks, viewChecks, begun as begunAt, stored, counted, count, whole, completed}
 use Rattle.dsms.specs.Dsm.{finished, taken, feed, view}
-use Rattle.dsms.specs.DsmPromises.{state, meaning-dsm, meaning-shown, FeedDsm, ViewDsmShown, ViewDsm}
-use Rattle.dsms.specs.DsmView.{Kept, keptOf, whereShown, shownId, shownType, kept, none, namedBy, ViewKept, ViewAnswer}
+use Rattle.dsms.specs.DsmPromises.{state, meaning-dsm, meaning-shown, FeedDsm, ViewDsm}
+use Rattle.dsms.specs.DsmView.{whereShown, shownId, shownType, kept, none, namedBy}
 use Rattle.dsms.specs.DsmRecovery.{Call, isAdmitted, fedTo, after, sameId, before, grown, run, fed, firstCopy, firstCopies, counts, isWhole, dsmOf}
 use Rattle.dsms.specs.DsmRecovery.{Alike, Recovers, runId, Viewed}
 use Rattle.dsms.specs.DsmHistory.{Feeding, by-value, in-place, Misfit, History, begun, called, viewed, misfit, gave, FeedRecovers, Shows, MisfitViews}
@@ -27,13 +27,11 @@ use Rattle.dsms.specs.declared.dsm.CollectDsm.{CollectDsm}
 use Rattle.dsms.specs.declared.dsm.DsmAnswer.{DsmAnswer}
 use Rattle.dsms.specs.declared.dsm.DsmAnswer.the-variants.{Refused, Nothing, Complete}
 use Rattle.dsms.specs.declared.dsm.DsmFed.{DsmFed}
-use Rattle.dsms.specs.declared.dsm.DsmShown.{DsmShown}
-use Rattle.dsms.specs.declared.dsm.DsmShown.the-variants.{Refused as NotShown}
 use Rattle.dsms.specs.declared.dsm_view.Dsm.{Dsm}
 use Rattle.runs.specs.Runs.{runFrom}
 use Rattle.dsms.proofs.Blocks.{other-memory, feed-refused, view-memory, not-shown, shown-size}
 use Rattle.dsms.proofs.DsmRecovery.{dsm-recovers, dsm-shows}
-use Rattle.dsms.proofs.DsmUnique.{type-back, back-dsm, undo-dsm, back-shown, undo-shown, back-state}
+use Rattle.dsms.proofs.DsmUnique.{back-dsm, undo-dsm, back-shown, undo-shown, back-state}
 use Rattle.dsms.proofs.DsmViewUnique.{back-kind}
 use Rattle.dsms.proofs.Kept.{told-apart}
 

@@ -10,7 +10,7 @@ use lib.Arith.{lt-of-le-ne}
 use native.Mathlib.Nat.{le-of-suc-le-suc}
 use lib.ListN.{length, getD, set, take, replicate, length-set, getD-replicate}
 use lib.Seq.{getD-set-same, getD-set-other, take-add}
-use borrow.Author.Tests.{eqb-true, eqb-false, eq-eqb, ne-eqb, not-true}
+use borrow.Author.Tests.{eqb-true, eqb-false, eq-eqb, ne-eqb}
 use Rattle.layouts.specs.Lists.{all}
 use Rattle.layouts.specs.Answer.{Answer, refused, nothing, gives, shown}
 use Rattle.layouts.specs.DsmHeader.{dsmType}
@@ -21,7 +21,7 @@ use Rattle.runs.specs.Runs.{goesOn, runFrom}
 use Rattle.runs.proofs.Runs.{goes-on, before-twice, run-before, run-from, kept-by-all}
 use Rattle.runs.proofs.Basics.{and-true}
 use Rattle.dsms.proofs.DsmRun.{fed-more, copy-kept, copy-new, copy-none, same-bool, yes-or, or-no, blockAt, placed, put-long, block-put, block-other}
-use Rattle.dsms.proofs.DsmRun.{counted-byte, first-byte, counted-none, fed-stays, nonzero, whole-parts, counts-stay, whole-stays, id-of-last}
+use Rattle.dsms.proofs.DsmRun.{counted-byte, first-byte, counted-none, fed-stays, whole-parts, counts-stay, whole-stays, id-of-last}
 use Rattle.dsms.proofs.Blocks.{counted-few, header-id, header-block, other-block, admitted, feed-refused, feed-taken, begun-same, begun-other}
 use Rattle.dsms.proofs.Blocks.{view-given, view-undone, nothing-shown}
 

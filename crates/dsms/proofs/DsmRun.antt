@@ -8,16 +8,15 @@ use native.Mathlib.Omega.{arith}
 use lib.Dec.{leb, eqb}
 use lib.ListN.{length, getD, take, drop, length-append, length-drop, List·getD-append}
 use lib.Seq.{length-take-le, getD-take, getD-drop, getD-append-add, ext-getD}
-use borrow.Author.Tests.{leb-true, leb-false, eq-eqb}
+use borrow.Author.Tests.{leb-true, leb-false, eqb-true, eq-eqb}
 use Rattle.layouts.specs.Lists.{put, all}
-use Rattle.layouts.specs.Bits.{the, value, field, bit}
-use Rattle.layouts.specs.Sizes.{size, krootBlocks, pkrBlocks}
+use Rattle.layouts.specs.Bits.{field, bit}
+use Rattle.layouts.specs.Sizes.{krootBlocks, pkrBlocks}
 use Rattle.layouts.specs.DsmHeader.{dsmType}
-use Rattle.layouts.specs.DsmKroot.{krootLayout}
-use Rattle.layouts.specs.DsmPkr.{pkrLayout}
 use Rattle.layouts.proofs.Fields.{field-in-byte}
 use Rattle.dsms.specs.Dsm.{krootCount, pkrCount, counted}
-use Rattle.dsms.specs.DsmRecovery.{Call, idIn, blockIn, fed, firstCopy, counts, allFed, isWhole, runId}
+use Rattle.dsms.specs.DsmRecovery.{Call, idIn, blockIn, isAdmitted, sameId, run, fed, firstCopy, counts, allFed, isWhole, runId}
+use Rattle.runs.proofs.Runs.{firstFrom, as-the-first}
 use Rattle.runs.proofs.Basics.{and-true}
 
 -- a run with one call more
@@ -188,3 +187,10 @@ pub id-of-last : (r : List Call) (c : Call) → runId (r ++ (c ∷ [])) ≡ idIn
 id-of-last [] c = refl
 id-of-last (x ∷ []) c = refl
 id-of-last (x ∷ y ∷ r) c = id-of-last (y ∷ r) c
+
+-- All of a run have one ID, so that its first call says as much as the one before.
+same-as-first : (x c d : Call) → sameId x c ≡ true → sameId x d ≡ sameId c d
+same-as-first x c d e = ap (λ (k : ℕ). eqb k (idIn d)) (eqb-true (idIn x) (idIn c) e)
+
+pub run-by-first : (cs : List Call) → run cs ≡ firstFrom isAdmitted sameId [] cs
+run-by-first cs = as-the-first isAdmitted sameId same-as-first cs

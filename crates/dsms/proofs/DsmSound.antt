@@ -4,7 +4,7 @@ use Prim.Native.Nat.{ℕ, zero, suc, _*_, _≤_, _<_}
 use mathlib.Core.Path.{_≡_, refl}
 use mathlib.Core.List.{List, [], _∷_}
 use mathlib.Core.Bool.{Bool, true, false, cond, _&&_}
-use lib.ListN.{length, getD, set, replicate}
+use lib.ListN.{length, getD}
 use lib.Dec.{eqb, eqb·suc-zero}
 use Rattle.layouts.specs.Answer.{refused, nothing, gives, refusal}
 use Rattle.layouts.specs.DsmHeader.{dsmType}

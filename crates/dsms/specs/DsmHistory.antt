@@ -8,12 +8,12 @@ use mathlib.Core.Bool.{true, false, cond}
 use mathlib.Core.Path.{_≡_}
 use lib.ListN.{length, replicate}
 use denote.Ref.{now}
-use Rattle.layouts.specs.Answer.{Answer, nothing, gives}
+use Rattle.layouts.specs.Answer.{nothing, gives}
 use Rattle.layouts.specs.DsmHeader.{dsmType}
 use Rattle.layouts.specs.declared.dsm_header.DsmType.the-variants.{Kroot}
 use Rattle.dsms.specs.Dsm.{Fed}
 use Rattle.dsms.specs.DsmPromises.{state, meaning-dsm, meaning-shown, NewDsm, FeedDsm, ViewDsmShown, ViewDsm}
-use Rattle.dsms.specs.DsmView.{Kept, keptOf, none, ViewKept, ViewAnswer, FeedInPlace}
+use Rattle.dsms.specs.DsmView.{keptOf, none, ViewKept, ViewAnswer, FeedInPlace}
 use Rattle.dsms.specs.DsmRecovery.{Call, isAdmitted, before, run, counts, isWhole, dsmOf, inView, bytesInView, Alike, Recovers, runId}
 use Rattle.dsms.specs.declared.dsm.CollectDsm.{CollectDsm}
 use Rattle.dsms.specs.declared.dsm.DsmAnswer.{DsmAnswer}

@@ -12,7 +12,7 @@ use lib.Pow.{high, low, pow-mono, shl-lt, pow-lt, shr-shr, mod-pow-add}
 use Rattle.layouts.specs.Answer.{gives}
 use Rattle.layouts.specs.Bits.{bit, field}
 
-bit-lt : (l : List ℕ) (i : ℕ) → bit l i < 2
+pub bit-lt : (l : List ℕ) (i : ℕ) → bit l i < 2
 unfolding bit
 bit-lt l i = omega arith
 

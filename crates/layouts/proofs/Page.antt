@@ -1,6 +1,6 @@
 -- Laws of the I/NAV page.
 -- Assumes nothing.
-use Prim.Native.Nat.{ℕ, _+_, _*_, _<_}
+use Prim.Native.Nat.{ℕ, _+_, _*_}
 use native.Mathlib.Nat.{add-zero}
 use native.Mathlib.Omega.{arith}
 use mathlib.Core.Path.{_≡_, refl, ap}
@@ -11,17 +11,17 @@ use lib.Dec.{eqb}
 use borrow.Author.Tests.{eq-eqb, ne-eqb, eqb-true}
 use Rattle.layouts.specs.Answer.{refused, nothing, gives, refusal, answered, Copied}
 use Rattle.layouts.specs.Bits.{bit, field, bytesFrom}
-use Rattle.layouts.specs.InavPage.{isCounted, osnma, pageChecks}
+use Rattle.layouts.specs.InavPage.{isCounted, osnma, pageKind, osnmaCopied}
+use Rattle.layouts.proofs.Fields.{bit-lt}
 
 -- Lengths.
 module _ (page : List ℕ) where
-  pub other-length : (length page ≡ 30 → ⊥) → refused 1 ≡ answered (refusal (pageChecks page)) (cond (isCounted page) (gives []) nothing)
+  pub other-length : (length page ≡ 30 → ⊥) → refused 1 ≡ pageKind page
   unfolding refusal answered
   other-length ne = rw (ne-eqb (length page) 30 ne)
 
   pub osnma-refused : (length page ≡ 30 → ⊥)
-      → _≡_ {A = Copied} (record { answer = refused 1; bytes = replicate 5 0 })
-      (record { answer = answered (refusal (pageChecks page)) (gives []); bytes = cond (eqb (refusal (pageChecks page)) 0) (osnma page) (replicate 5 0) })
+      → _≡_ {A = Copied} (record { answer = refused 1; bytes = replicate 5 0 }) (osnmaCopied page)
   unfolding refusal answered
   osnma-refused ne = rw (ne-eqb (length page) 30 ne)
 
@@ -29,10 +29,6 @@ module _ (page : List ℕ) where
 pub field-two : (l : List ℕ) (s : ℕ) → field l s 2 ≡ bit l s * 2 + bit l (s + 1)
 unfolding field
 field-two l s = omega (arith, ap (λ (i : ℕ). bit l i) (add-zero s))
-
-bit-lt : (l : List ℕ) (i : ℕ) → bit l i < 2
-unfolding bit
-bit-lt l i = omega arith
 
 no-first : (p q r s : Bool) → (p ≡ true → q ≡ true → ⊥) → false ≡ (p && q && r && s)
 no-first true true r s f = absurd (f refl refl)
@@ -71,23 +67,22 @@ module _ (page : List ℕ) {a : ℕ} (e : a ≡ field page 0 2) where
 
 -- The answers, of a page of 30 bytes.
 module _ (page : List ℕ) (long : length page ≡ 30) where
-  kind-is : {b : Bool} → b ≡ isCounted page → cond b (gives []) nothing ≡ answered (refusal (pageChecks page)) (cond (isCounted page) (gives []) nothing)
+  kind-is : {b : Bool} → b ≡ isCounted page → cond b (gives []) nothing ≡ pageKind page
   unfolding refusal answered
   kind-is e = rw (eq-eqb (length page) 30 long, e)
 
-  pub skips-even : {a : ℕ} → a ≡ field page 0 2 → (a ≡ 0 → ⊥) → nothing ≡ answered (refusal (pageChecks page)) (cond (isCounted page) (gives []) nothing)
+  pub skips-even : {a : ℕ} → a ≡ field page 0 2 → (a ≡ 0 → ⊥) → nothing ≡ pageKind page
   skips-even e ne = kind-is (even-other page e ne)
 
   pub skips-odd : {a b : ℕ} → a ≡ field page 0 2 → b ≡ field page 120 2 → (b ≡ 2 → ⊥)
-      → nothing ≡ answered (refusal (pageChecks page)) (cond (isCounted page) (gives []) nothing)
+      → nothing ≡ pageKind page
   skips-odd e f ne = kind-is (odd-other page e f ne)
 
   pub counts-both : {a b : ℕ} → a ≡ field page 0 2 → b ≡ field page 120 2 → a ≡ 0 → b ≡ 2
-      → gives [] ≡ answered (refusal (pageChecks page)) (cond (isCounted page) (gives []) nothing)
+      → gives [] ≡ pageKind page
   counts-both e f g h = kind-is (page-counts page e f g h)
 
   pub osnma-is : {a b c d e : ℕ} → a ≡ field page 138 8 → b ≡ field page 146 8 → c ≡ field page 154 8 → d ≡ field page 162 8 → e ≡ field page 170 8
-      → _≡_ {A = Copied} (record { answer = gives []; bytes = a ∷ b ∷ c ∷ d ∷ e ∷ [] })
-      (record { answer = answered (refusal (pageChecks page)) (gives []); bytes = cond (eqb (refusal (pageChecks page)) 0) (osnma page) (replicate 5 0) })
+      → _≡_ {A = Copied} (record { answer = gives []; bytes = a ∷ b ∷ c ∷ d ∷ e ∷ [] }) (osnmaCopied page)
   unfolding refusal answered osnma bytesFrom
   osnma-is ea eb ec ed ee = rw (eq-eqb (length page) 30 long, ea, eb, ec, ed, ee)

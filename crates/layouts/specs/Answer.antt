@@ -81,3 +81,11 @@ pub record Copied : Type 0 where
 
 unfoldable pub copied : ℕ → List ℕ → Answer → Copied
 copied many m a = record { answer = a; bytes = shownOr (replicate many 0) m a }
+
+-- an answer after its checks, and bytes beside it; the other bytes where it is refused
+abbrev pub answeredWith : List Check → Answer → List ℕ → List ℕ → Copied
+answeredWith checks a bytes others =
+    record {
+      answer = answered (refusal checks) a;
+      bytes = cond (eqb (refusal checks) 0) bytes others;
+    }

@@ -7,7 +7,7 @@ use mathlib.Core.Bool.{Bool, cond, not, _&&_}
 use mathlib.Core.Path.{_≡_}
 use lib.ListN.{length, replicate}
 use lib.Dec.{eqb}
-use Rattle.layouts.specs.Answer.{nothing, gives, Check, _when_, refusal, answered, Copied}
+use Rattle.layouts.specs.Answer.{Answer, nothing, gives, Check, _when_, refusal, answered, Copied, answeredWith}
 use Rattle.layouts.specs.Bits.{bit, bytesFrom, Field, row, the}
 use Rattle.layouts.specs.Meaning.{meaning-page-kind, meaning-copy}
 use Rattle.layouts.specs.declared.inav_page.PageKind.{PageKind}
@@ -52,15 +52,15 @@ abbrev pub pageChecks : List ℕ → List Check
 pageChecks page = 1 when not (eqb (length page) 30) ∷ []
 
 -- whether a page counts: an answer without a number, or nothing, as "Others are skipped"
+abbrev pub pageKind : List ℕ → Answer
+pageKind page = answered (refusal (pageChecks page)) (cond (isCounted page) (gives []) nothing)
+
 abbrev pub PageKindRead : List ℕ → PageKind → Type 0
-PageKindRead page r = meaning-page-kind r ≡ answered (refusal (pageChecks page)) (cond (isCounted page) (gives []) nothing)
+PageKindRead page r = meaning-page-kind r ≡ pageKind page
 
 -- the five bytes by value, zeros where refused
+abbrev pub osnmaCopied : List ℕ → Copied
+osnmaCopied page = answeredWith (pageChecks page) (gives []) (osnma page) (replicate 5 0)
+
 abbrev pub OsnmaRead : List ℕ → OsnmaField → Type 0
-OsnmaRead page r =
-    _≡_ {A = Copied}
-    (record { answer = meaning-copy (r .answer); bytes = r .bytes })
-    (record {
-      answer = answered (refusal (pageChecks page)) (gives []);
-      bytes = cond (eqb (refusal (pageChecks page)) 0) (osnma page) (replicate 5 0);
-    })
+OsnmaRead page r = _≡_ {A = Copied} (record { answer = meaning-copy (r .answer); bytes = r .bytes }) (osnmaCopied page)

@@ -6,7 +6,7 @@ use mathlib.Core.Bool.{Bool, true, false, cond, not}
 use mathlib.Core.Path.{_≡_}
 use lib.ListN.{length}
 use lib.Dec.{ltb, leb, eqb}
-use Rattle.layouts.specs.Answer.{Answer, gives, Check, _when_, refusal, answered, Copied}
+use Rattle.layouts.specs.Answer.{Answer, gives, Check, _when_, refusal, answered, Copied, answeredWith}
 use Rattle.layouts.specs.Bits.{Field, row, the, value, bytesFrom}
 use Rattle.layouts.specs.Sizes.{Size, keySizes, tagSizes, naming, adkds}
 use Rattle.layouts.specs.Meaning.{meaning-number, meaning-prnd, meaning-adkd, meaning-copy}
@@ -133,11 +133,7 @@ mackLayout k T =
 
 -- ".. and is copied to K/8 lent bytes": the answer, and what the output then has
 unfoldable pub keyCopied : List ℕ → ℕ → ℕ → List ℕ → Copied
-keyCopied m k T out =
-    record {
-      answer = answered (refusal (keyChecks m k T out)) (gives []);
-      bytes = cond (eqb (refusal (keyChecks m k T out)) 0) (bytesFrom m (keyStart k T) k) out;
-    }
+keyCopied m k T out = answeredWith (keyChecks m k T out) (gives []) (bytesFrom m (keyStart k T) k) out
 
 abbrev pub Key : List ℕ → ℕ → ℕ → List ℕ → Copy → List ℕ → Type 0
 Key m K T out r after =

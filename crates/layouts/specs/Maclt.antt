@@ -5,7 +5,7 @@ use mathlib.Core.List.{List, [], _∷_, _++_}
 use mathlib.Core.Bool.{cond}
 use lib.ListN.{length, getD, take, replicate}
 use lib.Dec.{ltb, leb, eqb}
-use Rattle.layouts.specs.Answer.{Answer, gives, Check, _when_, refusal, answered, Copied}
+use Rattle.layouts.specs.Answer.{Answer, gives, Check, _when_, refusal, answered, Copied, answeredWith}
 
 infixr 68 _·_
 -- A slot: an ADKD and its object, 0 the sender itself and 1 another satellite; or a flexible one.
@@ -103,10 +103,10 @@ padded l = take 4 (l ++ replicate 4 0)
 -- "FLX positions come ascending, at most 4": how many, and beside that the four bytes, zeros where refused
 unfoldable pub flxIndices : ℕ → ℕ → Copied
 flxIndices i message =
-    record {
-      answer = answered (refusal (flxChecks i message)) (gives (length (flxOf message (rowOf i table)) ∷ []));
-      bytes = cond (eqb (refusal (flxChecks i message)) 0) (padded (flxOf message (rowOf i table))) (replicate 4 0);
-    }
+    answeredWith (flxChecks i message)
+    (gives (length (flxOf message (rowOf i table)) ∷ []))
+    (padded (flxOf message (rowOf i table)))
+    (replicate 4 0)
 
 -- nt of an ID, or 8
 unfoldable pub ntOf : ℕ → Answer

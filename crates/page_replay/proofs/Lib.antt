@@ -1,7 +1,9 @@
+pub mod CollectorCalls
 pub mod PageFold
 pub mod PagePieces
 pub mod PageRefusals
 pub mod PageSteps
+pub mod PagesFed
 pub mod ReplayCases
 pub mod ReplayHistory
 pub mod ReplayUnique

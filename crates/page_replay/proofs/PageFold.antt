@@ -15,7 +15,7 @@ use Rattle.layouts.specs.Answer.{Answer, refused, nothing, gives, refusal}
 use Rattle.subframes.specs.Subframe.{usedAnswer, Page, wordOf, State as Subframes, Fed as SubframesFed, feedChecks, used, offered, feed as feedPage}
 use Rattle.layouts.specs.InavPage.{isCounted}
 use Rattle.dsms.specs.Dsm.{State as Dsms}
-use Rattle.page_replay.specs.Replay.{Time, later, State, Run, isTaken, subframesIn, dsmsIn, passedOn, skipped, counted, fedPage, fed, pageStep}
+use Rattle.page_replay.specs.Replay.{Time, later, State, Run, start, isTaken, subframesIn, dsmsIn, passedOn, skipped, counted, fedPage, fed, pageStep}
 use Rattle.page_replay.specs.Replay.{andThen, onward, replayed, pagesOf, most}
 use Rattle.page_replay.specs.ReplayPromises.{state}
 use Rattle.page_replay.specs.inner.Steps.{ran, AtMostOne, InRange, Room}
@@ -193,7 +193,7 @@ at-most (p ∷ ps) r h = go (eqb (word r) 14) refl (more r p) (at-most ps (andTh
 pub at-most-one : (s : State) (ps : List (List ℕ)) → length ps ≤ 15 → AtMostOne (replayed s ps)
 unfolding replayed
 at-most-one s ps h =
-    let q = at-most ps (record { state = s; subframes = []; dsms = [] }) (omega arith) in
+    let q = at-most ps (start s) (omega arith) in
     record { subframe-one = q .0; dsm-one = q .1 }
 
 -- What stays in range: the satellite and the time, and how far the totals go.
@@ -281,7 +281,7 @@ onward-more (p ∷ ps) r page = onward-more ps (andThen r p) page
 
 pub replayed-more : (s : State) (ps : List (List ℕ)) (page : List ℕ) → replayed s (ps ++ (page ∷ [])) ≡ andThen (replayed s ps) page
 unfolding replayed
-replayed-more s ps page = onward-more ps (record { state = s; subframes = []; dsms = [] }) page
+replayed-more s ps page = onward-more ps (start s) page
 
 pages-suc : (n : ℕ) (bytes : List ℕ) → pagesOf (suc n) bytes ≡ pagesOf n bytes ++ (take 30 (drop (30 * n) bytes) ∷ [])
 unfolding pagesOf
@@ -304,7 +304,7 @@ sound-onward (p ∷ ps) r n h =
 
 pub sound-replayed : (s : State) (ps : List (List ℕ)) (n : ℕ) → Sound s n → Sound (replayed s ps .state) (n + length ps)
 unfolding replayed
-sound-replayed s ps n h = sound-onward ps (record { state = s; subframes = []; dsms = [] }) n h
+sound-replayed s ps n h = sound-onward ps (start s) n h
 
 -- A turn of the loop over the pages: what is known before it, and after it.
 module _ (s : State) (bytes : List ℕ) (k : ℕ) (x : Stepped) (h m d : List ℕ) (e : ran x h m d ≡ replayed s (pagesOf k bytes)) where

@@ -20,7 +20,7 @@ use Rattle.layouts.proofs.Answers.{none-fails}
 use Rattle.subframes.specs.Subframe.{feedChecks, usedAnswer, isUsed, small, State as Subframes, changed, used, offered, answerAt}
 use Rattle.subframes.specs.Subframe.{feed as feedPage, view as viewPage}
 use Rattle.dsms.specs.Dsm.{State as Dsms, begun, stored, counted as counted-blocks, finished, taken, feed as feedBlock}
-use Rattle.page_replay.specs.Replay.{Totals, State, new, Run, isTaken, one, passedOn, skipped, counted, fedPage, fed, pageStep, andThen, onward}
+use Rattle.page_replay.specs.Replay.{Totals, State, new, Run, start, isTaken, one, passedOn, skipped, counted, fedPage, fed, pageStep, andThen, onward}
 use Rattle.page_replay.specs.Replay.{replayed, pagesOf, wholePages, consumed, most, areFew, replayChecks, Outcome, replay, fedHkroot, later}
 use Rattle.page_replay.specs.Pieces.{OneOfEach, AddsUp, TotalsAddUp, PagesAddUp, followedBy, SplitAnywhere, Call, answeredTo, called, calledAll}
 use Rattle.page_replay.specs.Pieces.{reported, consumedBytes, plus, Ready, InPieces, CallsGoOn, NewIsReady, TotalsSayUsed, Example}
@@ -82,7 +82,7 @@ onward-adds t (p ∷ ps) r n h =
 pub totals-add-up : TotalsAddUp
 unfolding replayed
 totals-add-up s ps =
-    let none : AddsUp (s .totals) (record { state = s; subframes = []; dsms = [] }) 0 =
+    let none : AddsUp (s .totals) (start s) 0 =
     record {
       all-pages = sym (add-zero (s .totals .pages));
       each-page = omega arith;
@@ -90,7 +90,7 @@ totals-add-up s ps =
       all-dsms = sym (add-zero (s .totals .dsms));
     }
     in
-    rw (zero-add (length ps)) at (onward-adds (s .totals) ps (record { state = s; subframes = []; dsms = [] }) 0 none)
+    rw (zero-add (length ps)) at (onward-adds (s .totals) ps (start s) 0 none)
 
 pub pages-add-up : PagesAddUp
 pages-add-up satellite week time hkroot mack memory ps =
@@ -101,9 +101,6 @@ pages-add-up satellite week time hkroot mack memory ps =
 onward-append : (ps qs : List (List ℕ)) (r : Run) → onward r (ps ++ qs) ≡ onward (onward r ps) qs
 onward-append [] qs r = refl
 onward-append (p ∷ ps) qs r = onward-append ps qs (andThen r p)
-
-abbrev pub start : State → Run
-start s = record { state = s; subframes = []; dsms = [] }
 
 followed-assoc : (a b c : Run) → followedBy (followedBy a b) c ≡ followedBy a (followedBy b c)
 followed-assoc a b c = rw (append-assoc (a .subframes) (b .subframes) (c .subframes), append-assoc (a .dsms) (b .dsms) (c .dsms))

@@ -8,7 +8,7 @@ use mathlib.Core.Bool.{Bool, true, false, cond}
 use lib.ListN.{length, replicate}
 use lib.Dec.{eqb}
 use borrow.Author.Tests.{eqb-true}
-use Rattle.layouts.specs.Answer.{Answer, refused, gives, refusal, copied}
+use Rattle.layouts.specs.Answer.{refused, gives, refusal, copied}
 use Rattle.layouts.specs.Bits.{bit, field, bytesFrom}
 use Rattle.layouts.specs.Gst.{svnGstChecks}
 use Rattle.layouts.specs.InavPage.{isCounted, osnma}
@@ -19,7 +19,7 @@ use Rattle.dsms.specs.Dsm.{begun as begun-blocks, stored, counted as counted-bl
 use Rattle.page_replay.specs.Replay.{Time, Dsm, State, new, Begun, begun, Run, skipped, counted, fed, pageStep, andThen, replayed, pagesOf, wholePages}
 use Rattle.page_replay.specs.Replay.{consumed, areFew, replayChecks, Outcome, replay, fedHkroot, later}
 use Rattle.page_replay.specs.Pieces.{goodPage}
-use Rattle.page_replay.specs.ReplayPromises.{state, outcome, meaning-begun, meaning-replay, meaning-subframes, meaning-dsms, BeginReplay, ReplayPages}
+use Rattle.page_replay.specs.ReplayPromises.{state, outcome, meaning-begun, meaning-subframes, meaning-dsms, BeginReplay, ReplayPages}
 use Rattle.page_replay.specs.ReplayHistory.{History, AnyCalls, zeros, goodPages, SmallestCase}
 use Rattle.page_replay.specs.declared.replay.PageReplay.{PageReplay}
 use Rattle.page_replay.specs.declared.replay.Begun.the-variants.{Refused as NewRefused, Ready}

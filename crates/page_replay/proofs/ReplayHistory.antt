@@ -1,192 +1,50 @@
--- Whatever history of calls: what the code left is one run of the definition over the pages that were consumed, and its collectors are fed pages and
--- blocks one by one.
+-- Whatever history of calls: what the code left is one run of the definition over the pages that were consumed, so that its collectors recover.
 -- Assumes nothing.
-use Prim.Native.Nat.{ℕ, _+_, _-_, _*_, _≤_, min}
+use Rattle.page_replay.specs.Replay as Replay
+use Prim.Native.Nat.{ℕ, _+_, _≤_, min}
 use native.Mathlib.Omega.{arith}
 use native.Mathlib.Decide.{ℕ-discrete}
 use mathlib.Core.Path.{_≡_, refl, sym, ap, _∙_, subst, subst⁻¹}
-use mathlib.Core.List.{List, [], _∷_, _++_, append-nil, append-assoc}
+use mathlib.Core.List.{List, [], _∷_, _++_, append-nil}
 use mathlib.Core.Bool.{Bool, true, false, cond}
-use lib.ListN.{length, getD, take, drop, replicate, length-take, length-drop}
+use lib.ListN.{length, replicate}
 use lib.Dec.{ltb, eqb}
-use borrow.Author.Tests.{ltb-true, ltb-false, eq-eqb}
-use Rattle.layouts.specs.Answer.{Answer, refused, nothing, gives, refusal, copied, shownOr}
-use Rattle.layouts.specs.InavPage.{isCounted, osnma}
+use borrow.Author.Tests.{ltb-true, ltb-false}
+use Rattle.layouts.specs.Answer.{Answer, refused, gives, refusal}
 use Rattle.layouts.proofs.Answers.{none-fails}
-use Rattle.layouts.proofs.Tags.{bytes-long}
-use Rattle.runs.specs.Runs.{afterAll}
 use Rattle.layouts.specs.Gst.{svnGstChecks}
-use Rattle.subframes.specs.Subframe.{Page, State as Subframes, Fed as SubframesFed, new as newSubframes, wordOf, subframeOf, feedChecks, changed}
-use Rattle.subframes.specs.Subframe.{answerAt, used, offered, feed as feedPage, viewChecks, view as viewPage}
-use Rattle.subframes.specs.SubframePromises.{call, state as subframeState, meaning-subframe, FeedSubframe}
-use Rattle.subframes.specs.SubframeHistory.{History as SubframeHistory, begun as pages-begun, called as page-by, one as page-fed}
-use Rattle.subframes.specs.declared.subframe.CollectSubframe.{CollectSubframe}
-use Rattle.subframes.specs.declared.subframe.SubframeFed.{SubframeFed}
-use Rattle.subframes.proofs.SubframeUnique.{back-subframe, back-state as back-collector}
+use Rattle.subframes.specs.Subframe.{Page, State as Subframes, new as newSubframes, used}
+use Rattle.subframes.specs.SubframePromises.{call, state as subframeState}
+use Rattle.subframes.specs.SubframeHistory.{History as SubframeHistory, begun as pages-begun}
+use Rattle.subframes.proofs.SubframeUnique.{back-state as back-collector}
 use Rattle.subframes.proofs.SubframeRecovery.{subframes-recover}
-use Rattle.subframes.proofs.SubframeSound.{Sound as Collecting, sound-admitted, sound-fed}
-use Rattle.subframes.specs.SubframeRecovery.{isAdmitted as isAdmittedPage, after as afterPages}
-use Rattle.dsms.specs.Dsm.{State as Dsms, Fed as DsmsFed, new as newDsms}
+use Rattle.subframes.proofs.SubframeSound.{Sound as Collecting, sound-admitted}
+use Rattle.subframes.specs.SubframeRecovery.{after as afterPages}
+use Rattle.dsms.specs.Dsm.{State as Dsms, new as newDsms}
 use Rattle.dsms.specs.DsmPromises.{state as dsmState}
-use Rattle.dsms.specs.DsmHistory.{History as DsmHistory, begun as blocks-begun, called as block-by, by-value as block-fed}
-use Rattle.dsms.specs.declared.dsm.CollectDsm.{CollectDsm}
-use Rattle.dsms.proofs.DsmHistory.{any-calls}
+use Rattle.dsms.specs.DsmHistory.{History as DsmHistory, begun as blocks-begun}
 use Rattle.dsms.proofs.DsmRecovery.{dsm-recovers}
 use Rattle.dsms.proofs.DsmSound.{Sound as Gathering}
 use Rattle.dsms.proofs.DsmUnique.{back-state as back-dsm}
-use Rattle.dsms.specs.DsmRecovery.{Call as Block, isAdmitted as isAdmittedBlock, fedTo, after as afterBlocks}
-use Rattle.page_replay.specs.Replay as Replay
-use Rattle.page_replay.specs.Replay.{Time, later, Dsm, Totals, State, new, Begun, Run, hkrootOf, subframesIn, dsmsIn, passedOn, fedHkroot, skipped, counted}
-use Rattle.page_replay.specs.Replay.{fedPage, fed, pageStep, andThen, onward, replayed, pagesOf, wholePages, consumed, most, areFew, replayChecks, Outcome, replay}
-use Rattle.page_replay.specs.Pieces.{followedBy, Call, answeredTo, reported as reported-answer}
-use Rattle.page_replay.specs.ReplayPromises.{state, outcome, meaning-replay, meaning-subframes, meaning-dsms, BeginReplay, ReplayPages}
-use Rattle.page_replay.specs.ReplayHistory.{Beginning, reported, Misfit, History, begun, called, misfit, fedAs, fedFrom, blocksIn, blocksFrom}
-use Rattle.page_replay.specs.ReplayHistory.{subframesFrom, dsmsFrom, firstSubframes, firstDsms, pagesFed, blocksFed, Recovered, ReplayRecovers}
-use Rattle.page_replay.specs.ReplayHistory.{blockIn, refusedStart, CallAnswers, CallsAnswered, Unchanged, RefusedChangesNothing, MisfitIsRefused}
+use Rattle.dsms.specs.DsmRecovery.{Call as Block, isAdmitted as isAdmittedBlock, after as afterBlocks}
+use Rattle.page_replay.specs.Replay.{noTotals, start, Time, Dsm, Totals, State, new, Begun, Run, skipped, replayed, pagesOf, wholePages, consumed}
+use Rattle.page_replay.specs.Replay.{most, areFew}
+use Rattle.page_replay.specs.Replay.{replayChecks, Outcome, replay}
+use Rattle.page_replay.specs.Pieces.{followedBy, Call, answeredTo, reported}
+use Rattle.page_replay.specs.ReplayPromises.{state, outcome, meaning-replay, meaning-subframes, meaning-dsms, ReplayPages}
+use Rattle.page_replay.specs.ReplayHistory.{Beginning, Misfit, History, begun, called, misfit, fedFrom, blocksFrom, subframesFrom}
+use Rattle.page_replay.specs.ReplayHistory.{dsmsFrom, firstSubframes, firstDsms, pagesFed, blocksFed, ReplayRecovers, refusedStart, CallsAnswered}
+use Rattle.page_replay.specs.ReplayHistory.{Unchanged, RefusedChangesNothing, MisfitIsRefused}
 use Rattle.page_replay.specs.declared.replay.PageReplay.{PageReplay}
 use Rattle.page_replay.specs.declared.replay.ReplayAnswer.{ReplayAnswer}
-use Rattle.page_replay.specs.declared.replay.ReplayAnswer.the-variants.{Refused, Consumed}
+use Rattle.page_replay.specs.declared.replay.ReplayAnswer.the-variants.{Refused}
 use Rattle.page_replay.specs.declared.replay.Replayed.{Replayed}
-use Rattle.page_replay.proofs.PageFold.{later-weeks, later-week}
-use Rattle.page_replay.proofs.PagePieces.{Good, start, good-onward, zeros-small, admitted-call, high-budget-7, split-anywhere, call-consumes}
-use Rattle.page_replay.proofs.PageSteps.{start-admitted}
+use Rattle.page_replay.proofs.PagePieces.{Good, good-onward, zeros-small, admitted-call, high-budget-7, split-anywhere, call-consumes}
 use Rattle.page_replay.proofs.PageRefusals.{other-dsm-bytes, other-subframes, other-place, replay-refused, replay-done}
 use Rattle.page_replay.proofs.ReplayUnique.{back-answer, back-subframes, back-dsms, back-state, undo-answer, undo-subframes, undo-dsms}
 use Rattle.subframes.proofs.Pages.{other-hkroot, other-mack}
-
--- Lists of pages and blocks that are put together.
-after-append : {S A : Type 0} (step : S → A → S) (s : S) (ps qs : List A) → afterAll step s (ps ++ qs) ≡ afterAll step (afterAll step s ps) qs
-after-append step s [] qs = refl
-after-append step s (p ∷ ps) qs = after-append step (step s p) ps qs
-
-blocks-append : (s : Subframes) (ps qs : List Page) → blocksFrom s (ps ++ qs) ≡ blocksFrom s ps ++ blocksFrom (afterPages s ps) qs
-unfolding blocksFrom
-blocks-append s [] qs = refl
-blocks-append s (p ∷ ps) qs =
-    let f = feedPage s p in
-    ap (λ (l : List Block). blocksIn (f .answer) (f .state) (p .satellite) ++ l) (blocks-append (f .state) ps qs)
-    ∙ sym (append-assoc (blocksIn (f .answer) (f .state) (p .satellite)) (blocksFrom (f .state) ps) (blocksFrom (afterPages (f .state) ps) qs))
-
-subframes-append : (s : Subframes) (ps qs : List Page) → subframesFrom s (ps ++ qs) ≡ subframesFrom s ps ++ subframesFrom (afterPages s ps) qs
-unfolding subframesFrom
-subframes-append s [] qs = refl
-subframes-append s (p ∷ ps) qs =
-    let f = feedPage s p in
-    ap (λ (l : List Time). subframesIn (f .answer) ++ l) (subframes-append (f .state) ps qs)
-    ∙ sym (append-assoc (subframesIn (f .answer)) (subframesFrom (f .state) ps) (subframesFrom (afterPages (f .state) ps) qs))
-
-dsms-append : (d : Dsms) (cs es : List Block) → dsmsFrom d (cs ++ es) ≡ dsmsFrom d cs ++ dsmsFrom (afterBlocks d cs) es
-unfolding dsmsFrom
-dsms-append d [] es = refl
-dsms-append d (c ∷ cs) es =
-    let f = fedTo d c in
-    ap (λ (l : List Dsm). dsmsIn (f .answer) ++ l) (dsms-append (f .state) cs es)
-    ∙ sym (append-assoc (dsmsIn (f .answer)) (dsmsFrom (f .state) cs) (dsmsFrom (afterBlocks (f .state) cs) es))
-
--- From a state, what a run does that feeds these pages.
-pub record Feeds (s : State) (ps : List Page) (r : Run) : Type 0 where
-  pub subframes-is : r .state .subframes ≡ afterPages (s .subframes) ps
-  pub dsms-is : r .state .dsms ≡ afterBlocks (s .dsms) (blocksFrom (s .subframes) ps)
-  pub subframes-done : r .subframes ≡ subframesFrom (s .subframes) ps
-  pub dsms-done : r .dsms ≡ dsmsFrom (s .dsms) (blocksFrom (s .subframes) ps)
-
-passed-state : (a : Answer) (s : Subframes) (n : ℕ) (d : Dsms) → passedOn a s n d .state ≡ afterBlocks d (blocksIn a s n)
-unfolding fedHkroot
-passed-state (refused q) s n d = refl
-passed-state nothing s n d = refl
-passed-state (gives l) s n d = refl
-
-passed-done : (a : Answer) (s : Subframes) (n : ℕ) (d : Dsms) → dsmsIn (passedOn a s n d .answer) ≡ dsmsFrom d (blocksIn a s n)
-unfolding fedHkroot dsmsFrom
-passed-done (refused q) s n d = refl
-passed-done nothing s n d = refl
-passed-done (gives l) s n d = sym (append-nil _)
-
-fed-feeds : (s : State) (page : List ℕ) → Feeds s (fedPage s page ∷ []) (fed s (fedPage s page))
-unfolding fed counted blocksFrom subframesFrom
-fed-feeds s page =
-    let f = feedPage (s .subframes) (fedPage s page) in
-    let one : blocksFrom (s .subframes) (fedPage s page ∷ []) ≡ blocksIn (f .answer) (f .state) (s .satellite) = append-nil _ in
-    record {
-      subframes-is = refl;
-      dsms-is = passed-state (f .answer) (f .state) (s .satellite) (s .dsms) ∙ ap (afterBlocks (s .dsms)) (sym one);
-      subframes-done = sym (append-nil (subframesIn (f .answer)));
-      dsms-done = passed-done (f .answer) (f .state) (s .satellite) (s .dsms) ∙ ap (dsmsFrom (s .dsms)) (sym one);
-    }
-
-skipped-feeds : (s : State) → Feeds s [] (skipped s)
-unfolding skipped blocksFrom subframesFrom dsmsFrom
-skipped-feeds s = record { subframes-is = refl; dsms-is = refl; subframes-done = refl; dsms-done = refl }
-
-step-feeds : (s : State) (page : List ℕ) → Feeds s (fedAs (s .satellite) (s .next) page) (pageStep s page)
-unfolding pageStep
-step-feeds s page = go (isCounted page)
-  where
-    go : (b : Bool) → Feeds s (cond b (fedPage s page ∷ []) []) (cond b (fed s (fedPage s page)) (skipped s))
-    go true = fed-feeds s page
-    go false = skipped-feeds s
-
-step-place : (s : State) (page : List ℕ) → (pageStep s page .state .satellite ≡ s .satellite) × (pageStep s page .state .next ≡ later (s .next))
-unfolding pageStep fed counted skipped
-step-place s page = go (isCounted page)
-  where
-    next : Bool → State
-    next b = cond b (fed s (fedPage s page)) (skipped s) .state
-
-    go : (b : Bool) → (next b .satellite ≡ s .satellite) × (next b .next ≡ later (s .next))
-    go true = (refl, refl)
-    go false = (refl, refl)
-
--- One run after another.
-module _ (s : State) (ps qs : List Page) (r x : Run) (f : Feeds s ps r) (g : Feeds (r .state) qs x) where
-  abbrev bs : List Block
-  bs = blocksFrom (s .subframes) ps
-
-  abbrev es : List Block
-  es = blocksFrom (afterPages (s .subframes) ps) qs
-
-  then-blocks : blocksFrom (r .state .subframes) qs ≡ es
-  then-blocks = ap (λ (t : Subframes). blocksFrom t qs) (f .subframes-is)
-
-  feeds-more : Feeds s (ps ++ qs) (followedBy r x)
-  feeds-more =
-      record {
-        subframes-is =
-            g .subframes-is ∙ ap (λ (t : Subframes). afterPages t qs) (f .subframes-is)
-            ∙ sym (after-append (λ (t : Subframes) (p : Page). feedPage t p .state) (s .subframes) ps qs);
-        dsms-is =
-            g .dsms-is ∙ ap (afterBlocks (r .state .dsms)) then-blocks ∙ ap (λ (d : Dsms). afterBlocks d es) (f .dsms-is)
-            ∙ sym (after-append (λ (d : Dsms) (c : Block). fedTo d c .state) (s .dsms) bs es)
-            ∙ ap (afterBlocks (s .dsms)) (sym (blocks-append (s .subframes) ps qs));
-        subframes-done =
-            ap (λ (l : List Time). l ++ x .subframes) (f .subframes-done)
-            ∙ ap (λ (l : List Time). subframesFrom (s .subframes) ps ++ l) (g .subframes-done ∙ ap (λ (t : Subframes). subframesFrom t qs) (f .subframes-is))
-            ∙ sym (subframes-append (s .subframes) ps qs);
-        dsms-done =
-            ap (λ (l : List Dsm). l ++ x .dsms) (f .dsms-done)
-            ∙ ap (λ (l : List Dsm). dsmsFrom (s .dsms) bs ++ l)
-            (g .dsms-done ∙ ap (dsmsFrom (r .state .dsms)) then-blocks ∙ ap (λ (d : Dsms). dsmsFrom d es) (f .dsms-is))
-            ∙ sym (dsms-append (s .dsms) bs es) ∙ ap (dsmsFrom (s .dsms)) (sym (blocks-append (s .subframes) ps qs));
-      }
-
-one-more : (s : State) (page : List ℕ) (pages : List (List ℕ))
-    → replayed s (page ∷ pages) ≡ followedBy (pageStep s page) (replayed (pageStep s page .state) pages)
-unfolding replayed andThen
-one-more s page pages = split-anywhere s (page ∷ []) pages
-
-pub replay-feeds : (pages : List (List ℕ)) (s : State) → Feeds s (fedFrom (s .satellite) (s .next) pages) (replayed s pages)
-unfolding fedFrom replayed blocksFrom subframesFrom dsmsFrom
-replay-feeds [] s = record { subframes-is = refl; dsms-is = refl; subframes-done = refl; dsms-done = refl }
-replay-feeds (page ∷ pages) s =
-    let x : State = pageStep s page .state in
-    let place = step-place s page in
-    let same : fedFrom (x .satellite) (x .next) pages ≡ fedFrom (s .satellite) (later (s .next)) pages =
-    ap (λ (n : ℕ). fedFrom n (x .next) pages) (place .0) ∙ ap (λ (t : Time). fedFrom (s .satellite) t pages) (place .1) in
-    let rest : Feeds x (fedFrom (s .satellite) (later (s .next)) pages) (replayed x pages) =
-    subst (λ (l : List Page). Feeds x l (replayed x pages)) same (replay-feeds pages x) in
-    subst⁻¹ (λ (r : Run). Feeds s (fedAs (s .satellite) (s .next) page ++ fedFrom (s .satellite) (later (s .next)) pages) r) (one-more s page pages)
-    (feeds-more s (fedAs (s .satellite) (s .next) page) (fedFrom (s .satellite) (later (s .next)) pages) (pageStep s page) (replayed x pages)
-    (step-feeds s page) rest)
+use Rattle.page_replay.proofs.PagesFed.{Feeds, replay-feeds, Each, each-at, Fits, fits-admitted, fed-fit, blocks-fit}
+use Rattle.page_replay.proofs.CollectorCalls.{pages-called, blocks-called}
 
 -- A refused call.
 refused-outcome : (s : State) (bytes : List ℕ) (budget n : ℕ) → replay s bytes budget .answer ≡ refused n
@@ -256,17 +114,13 @@ first b = state (b .replay) (b .hkroot) (b .mack) (b .memory)
 abbrev pub held : PageReplay → List ℕ → List ℕ → List ℕ → List Time → List Dsm → Run
 held c hkroot mack memory subframes dsms = record { state = state c hkroot mack memory; subframes = subframes; dsms = dsms }
 
-same-number : (a : ReplayAnswer) → reported a ≡ reported-answer (meaning-replay a)
-same-number (Refused n) = refl
-same-number (Consumed n) = refl
-
 called-run : (c : PageReplay) (h m d bytes : List ℕ) (budget : ℕ) (r : Replayed) (h′ m′ d′ : List ℕ) → ReplayPages c h m d bytes budget r h′ m′ d′
-    → held (r .replay) h′ m′ d′ (meaning-subframes (r .subframe)) (meaning-dsms (r .dsm)) ≡ replayed (state c h m d) (pagesOf (reported (r .answer)) bytes)
+    → held (r .replay) h′ m′ d′ (meaning-subframes (r .subframe)) (meaning-dsms (r .dsm))
+    ≡ replayed (state c h m d) (pagesOf (reported (meaning-replay (r .answer))) bytes)
 called-run c h m d bytes budget r h′ m′ d′ e =
     let s : State = state c h m d in
     let call : Call = record { bytes = bytes; budget = budget } in
-    let number : reported (r .answer) ≡ reported-answer (answeredTo s call .answer) =
-    same-number (r .answer) ∙ ap (λ (o : Outcome). reported-answer (o .answer)) e in
+    let number : reported (meaning-replay (r .answer)) ≡ reported (answeredTo s call .answer) = ap (λ (o : Outcome). reported (o .answer)) e in
     ap (λ (o : Outcome). record { state = o .state; subframes = o .subframes; dsms = o .dsms }) e ∙ call-consumes s call
     ∙ ap (λ (k : ℕ). replayed s (pagesOf k bytes)) (sym number)
 
@@ -275,7 +129,7 @@ pub reached : {b : Beginning} {c : PageReplay} {h m d : List ℕ} {pages : List 
 unfolding replayed
 reached (begun satellite week time a e lh lm ld) = refl
 reached {b} (called {c = c} {hkroot = h} {mack = m} {memory = d} {pages = pages} {subframes = subframes} {dsms = dsms} k bytes budget r h′ m′ d′ e) =
-    let qs : List (List ℕ) = pagesOf (reported (r .answer)) bytes in
+    let qs : List (List ℕ) = pagesOf (reported (meaning-replay (r .answer))) bytes in
     ap (followedBy (held c h m d subframes dsms)) (called-run c h m d bytes budget r h′ m′ d′ e)
     ∙ ap (λ (x : Run). followedBy x (replayed (x .state) qs)) (reached k)
     ∙ sym (split-anywhere (first b) pages qs)
@@ -288,9 +142,6 @@ reached {b} (misfit {c = c} {x = x} {y = y} {z = z} {pages = pages} {subframes =
     ∙ reached k
 
 -- It began with two new collectors.
-abbrev noTotals : Totals
-noTotals = record { pages = 0; skipped = 0; used = 0; unused = 0; subframes = 0; dsms = 0 }
-
 begun-state : (satellite week time : ℕ) → (Replay.begun satellite week time [] [] [] .state .subframes ≡ newSubframes [] [])
     × (Replay.begun satellite week time [] [] [] .state .dsms ≡ newDsms []) × (Replay.begun satellite week time [] [] [] .state .totals ≡ noTotals)
 unfolding Replay.begun
@@ -386,7 +237,7 @@ unfolding pagesOf
 never (begun satellite week time a e lh lm ld) ne = refl
 never (called {pages = pages} k bytes budget r h′ m′ d′ e) ne =
     let none : pages ≡ [] = never k ne in
-    ap (λ (a : ReplayAnswer). pages ++ pagesOf (reported a) bytes) (stuck k none ne bytes budget r h′ m′ d′ e) ∙ append-nil pages ∙ none
+    ap (λ (a : ReplayAnswer). pages ++ pagesOf (reported (meaning-replay a)) bytes) (stuck k none ne bytes budget r h′ m′ d′ e) ∙ append-nil pages ∙ none
 never (misfit hkroot mack memory k w bytes budget r x′ y′ z′ e) ne = never k ne
 
 numbered : (s : State) (n : ℕ) (bytes : List ℕ) (budget : ℕ) → Good s n → n ≤ most
@@ -404,7 +255,8 @@ good-after : {b : Beginning} {c : PageReplay} {h m d : List ℕ} {pages : List (
     → History b c h m d pages subframes dsms → refusedStart b ≡ 0 → Good (state c h m d) (0 + length pages)
 unfolding replayed
 good-after {b} {pages = pages} k z =
-    subst⁻¹ (λ (s : State). Good s (0 + length pages)) (ap (λ (x : Run). x .state) (reached k)) (good-onward pages (start (first b)) 0 (good-new (new-first k) z))
+    subst⁻¹ (λ (s : State). Good s (0 + length pages)) (ap (λ (x : Run). x .state) (reached k))
+    (good-onward pages (start (first b)) 0 (good-new (new-first k) z))
 
 pub calls-answered : CallsAnswered
 calls-answered b c h m d pages subframes dsms k bytes budget r h′ m′ d′ e =
@@ -414,74 +266,7 @@ calls-answered b c h m d pages subframes dsms k bytes budget r h′ m′ d′ e 
       never-began = λ ne. (never k ne, stuck k (never k ne) ne bytes budget r h′ m′ d′ e);
     }
 
--- The collectors refuse no page and no block.
-abbrev Each : {A : Type 0} → (A → Type 0) → List A → Type 0
-Each P [] = Unit {0}
-Each P (x ∷ xs) = P x × Each P xs
-
-each-append : {A : Type 0} (P : A → Type 0) (xs ys : List A) → Each P xs → Each P ys → Each P (xs ++ ys)
-each-append P [] ys f g = g
-each-append P (x ∷ xs) ys f g = (f .0, each-append P xs ys (f .1) g)
-
-each-at : {A : Type 0} (P : A → Type 0) (xs ys : List A) (x : A) → Each P (xs ++ (x ∷ ys)) → P x
-each-at P [] ys x f = f .0
-each-at P (y ∷ xs) ys x f = each-at P xs ys x (f .1)
-
-record Fits (p : Page) : Type 0 where
-  five : length (p .bytes) ≡ 5
-  some : 1 ≤ p .satellite
-  few : p .satellite ≤ 36
-  in-weeks : p .week ≤ 4095
-  in-week : p .time ≤ 604799
-
-fits-admitted : (p : Page) → Fits p → isAdmittedPage p ≡ true
-unfolding refusal
-fits-admitted p f =
-    let z = start-admitted (p .satellite) (p .week) (p .time) (f .some) (f .few) (f .in-weeks) (f .in-week) in
-    rw (eq-eqb (length (p .bytes)) 5 (f .five)) (eq-eqb _ 0 (sym z))
-
-fed-fit : (pages : List (List ℕ)) (n : ℕ) (t : Time) → 1 ≤ n → n ≤ 36 → t .week ≤ 4095 → t .time ≤ 604799 → Each Fits (fedFrom n t pages)
-unfolding fedFrom osnma
-fed-fit [] n t l u v w = tt
-fed-fit (page ∷ pages) n t l u v w =
-    each-append Fits (fedAs n t page) (fedFrom n (later t) pages) (go (isCounted page)) (fed-fit pages n (later t) l u (later-weeks t v) (later-week t w))
-  where
-    go : (b : Bool) → Each Fits (cond b (call (osnma page) n (t .week) (t .time) ∷ []) [])
-    go true = (record { five = bytes-long page 138 5; some = l; few = u; in-weeks = v; in-week = w }, tt)
-    go false = tt
-
-hkroot-long : (s : Subframes) (n : ℕ) → Collecting s → 1 ≤ n → n ≤ 36 → length (hkrootOf s n) ≡ 15
-unfolding copied viewPage
-hkroot-long s n k l u = go (eqb (refusal (viewChecks s n)) 0) (eqb (getD (s .counts) (n - 1) 0) 15)
-  where
-    go : (a b : Bool)
-        → length (shownOr (replicate 15 0) (s .hkroot) (cond a (cond b (gives (15 * (n - 1) ∷ 15 ∷ [])) nothing) (refused (refusal (viewChecks s n))))) ≡ 15
-    go true true = simp (length-take, length-drop) (omega (arith, k .h540))
-    go true false = refl
-    go false b = refl
-
-block-long : (m : List ℕ) → length m ≡ 15 → isAdmittedBlock (blockIn m) ≡ true
-block-long m l = eq-eqb (length (take 13 (drop 2 m))) 13 (simp (length-take, length-drop) (omega arith))
-
-blocks-fit : (ps : List Page) (s : Subframes) → Collecting s → Each Fits ps → Each (λ (d : Block). isAdmittedBlock d ≡ true) (blocksFrom s ps)
-unfolding blocksFrom
-blocks-fit [] s k f = tt
-blocks-fit (p ∷ ps) s k f =
-    let x = feedPage s p in
-    let on : Collecting (x .state) = sound-fed s p k in
-    each-append (λ (d : Block). isAdmittedBlock d ≡ true) (blocksIn (x .answer) (x .state) (p .satellite)) (blocksFrom (x .state) ps)
-    (go (x .answer) (block-long (hkrootOf (x .state) (p .satellite)) (hkroot-long (x .state) (p .satellite) on (f .0 .some) (f .0 .few))))
-    (blocks-fit ps (x .state) on (f .1))
-  where
-    t : Subframes
-    t = feedPage s p .state
-
-    go : (a : Answer) → isAdmittedBlock (blockIn (hkrootOf t (p .satellite))) ≡ true
-        → Each (λ (d : Block). isAdmittedBlock d ≡ true) (blocksIn a t (p .satellite))
-    go (refused q) h = tt
-    go nothing h = tt
-    go (gives l) h = (h, tt)
-
+-- The collectors refuse no page.
 pages-fit : {b : Beginning} {c : PageReplay} {h m d : List ℕ} {pages : List (List ℕ)} {subframes : List Time} {dsms : List Dsm}
     → History b c h m d pages subframes dsms → Each Fits (pagesFed b pages)
 unfolding fedFrom
@@ -493,59 +278,7 @@ pages-fit {b} {pages = pages} k = go (ℕ-discrete (refusedStart b) 0)
         fed-fit pages (b .replay .satellite) (record { week = b .replay .week; time = b .replay .time }) (f .some) (f .few) (f .in-weeks) (f .in-week)
     go (no ne) = subst⁻¹ (λ (ps : List (List ℕ)). Each Fits (pagesFed b ps)) (never k ne) tt
 
--- Every answer of the subframe collector's definition is one of its code's, so that each page is a call.
-abbrev Coded : Answer → Type 0
-Coded a = meaning-subframe (back-subframe a) ≡ a
-
-fed-coded : (t : Subframes) (p : Page) → Coded (feedPage t p .answer)
-unfolding feedPage offered used answerAt
-fed-coded t p = go (eqb (refusal (feedChecks t p)) 0) (eqb (wordOf (p .time)) (getD (u .counts) (p .satellite - 1) 0)) (eqb (wordOf (p .time) + 1) 15)
-  where
-    u : Subframes
-    u = changed t (p .week) (subframeOf (p .time))
-
-    go : (a b c : Bool)
-        → Coded (cond {A = SubframesFed} a
-        (cond {A = SubframesFed} b
-        (record { state = used u (p .bytes) (p .satellite - 1) (wordOf (p .time)) .state; answer = cond c (gives (u .week ∷ 30 * u .subframe ∷ [])) nothing })
-        (record { state = u; answer = nothing }))
-        (record { state = t; answer = refused (refusal (feedChecks t p)) }) .answer)
-    go true true true = refl
-    go true true false = refl
-    go true false c = refl
-    go false b c = refl
-
-page-called : {c : CollectSubframe} {h m : List ℕ} {qs : List Page} → SubframeHistory c h m qs → (p : Page)
-    → let f = feedPage (subframeState c h m) p .state in SubframeHistory (back-collector f) (f .hkroot) (f .mack) (qs ++ (p ∷ []))
-page-called {c} {h} {m} k p =
-    let f = feedPage (subframeState c h m) p in
-    let r : SubframeFed = record { collector = back-collector (f .state); answer = back-subframe (f .answer) } in
-    let e : FeedSubframe c h m p r (f .state .hkroot) (f .state .mack) =
-    ap (λ (a : Answer). record { state = f .state; answer = a }) (fed-coded (subframeState c h m) p) in
-    page-by k (page-fed p r (f .state .hkroot) (f .state .mack) e)
-
-pages-called : (ps : List Page) {c : CollectSubframe} {h m : List ℕ} {qs : List Page} → SubframeHistory c h m qs
-    → let f = afterPages (subframeState c h m) ps in SubframeHistory (back-collector f) (f .hkroot) (f .mack) (qs ++ ps)
-pages-called [] {c} {h} {m} {qs} k = subst⁻¹ (λ (l : List Page). SubframeHistory c h m l) (append-nil qs) k
-pages-called (p ∷ ps) {c} {h} {m} {qs} k =
-    let f = afterPages (subframeState c h m) (p ∷ ps) in
-    subst (λ (l : List Page). SubframeHistory (back-collector f) (f .hkroot) (f .mack) l) (append-assoc qs (p ∷ []) ps) (pages-called ps (page-called k p))
-
--- and each block
-block-called : {c : CollectDsm} {m : List ℕ} {es : List Block} → DsmHistory c m es → (d : Block)
-    → let f = fedTo (dsmState c m) d .state in DsmHistory (back-dsm f) (f .memory) (es ++ (d ∷ []))
-block-called {c} {m} {es} k d =
-    let w = any-calls .feed c m d in
-    let s : dsmState (w .0 .collector) (w .1) ≡ fedTo (dsmState c m) d .state = ap (λ (f : DsmsFed). f .state) (w .2) in
-    subst (λ (f : Dsms). DsmHistory (back-dsm f) (f .memory) (es ++ (d ∷ []))) s (block-by k (block-fed d (w .0) (w .1) (w .2)))
-
-blocks-called : (ds : List Block) {c : CollectDsm} {m : List ℕ} {es : List Block} → DsmHistory c m es
-    → let f = afterBlocks (dsmState c m) ds in DsmHistory (back-dsm f) (f .memory) (es ++ ds)
-blocks-called [] {c} {m} {es} k = subst⁻¹ (λ (l : List Block). DsmHistory c m l) (append-nil es) k
-blocks-called (d ∷ ds) {c} {m} {es} k =
-    let f = afterBlocks (dsmState c m) (d ∷ ds) in
-    subst (λ (l : List Block). DsmHistory (back-dsm f) (f .memory) l) (append-assoc es (d ∷ []) ds) (blocks-called ds (block-called k d))
-
+-- All together.
 pub replay-recovers : ReplayRecovers
 replay-recovers b c h m d pages subframes dsms k =
     let n = new-first k in

@@ -9,7 +9,7 @@ use Rattle.layouts.specs.Answer.{Answer, refused, nothing, gives, refusal}
 use Rattle.layouts.specs.Gst.{svnGstChecks}
 use Rattle.runs.specs.Runs.{afterAll}
 use Rattle.subframes.specs.Subframe.{State as Subframes, Page, feedChecks, isUsed, usedAnswer}
-use Rattle.page_replay.specs.Replay.{State, Totals, new, Run, isTaken, replayed, pagesOf, wholePages, most, areFew, replayChecks, Outcome, replay}
+use Rattle.page_replay.specs.Replay.{State, Totals, new, Run, start, isTaken, replayed, pagesOf, wholePages, most, areFew, replayChecks, Outcome, replay}
 
 -- "A budget above 15 is 7, so a call completes at most one subframe and one DSM": so do fifteen pages, whatever they are, from any record
 abbrev pub OneOfEach : Type 0
@@ -72,7 +72,7 @@ consumedBytes s (c ∷ cs) = take (30 * reported (answeredTo s c .answer)) (c .b
 abbrev pub InPieces : Type 0
 InPieces =
     (s : State) (file tail : List ℕ) (cs : List Call) → consumedBytes s cs ++ tail ≡ file → length tail < 30
-    → calledAll (record { state = s; subframes = []; dsms = [] }) cs ≡ replayed s (pagesOf (wholePages file) file)
+    → calledAll (start s) cs ≡ replayed s (pagesOf (wholePages file) file)
 
 -- a legal record whose totals stay legal for n pages
 abbrev pub plus : Totals → ℕ → Totals

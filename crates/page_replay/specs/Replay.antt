@@ -45,6 +45,9 @@ pub record State : Type 0 where
   pub dsms : Dsms
   pub totals : Totals
 
+abbrev pub noTotals : Totals
+noTotals = record { pages = 0; skipped = 0; used = 0; unused = 0; subframes = 0; dsms = 0 }
+
 -- a new one, of a satellite and the time of the first page
 abbrev pub new : ℕ → ℕ → ℕ → List ℕ → List ℕ → List ℕ → State
 new satellite week time hkroot mack memory =
@@ -53,7 +56,7 @@ new satellite week time hkroot mack memory =
       next = record { week = week; time = time };
       subframes = newSubframes hkroot mack;
       dsms = newDsms memory;
-      totals = record { pages = 0; skipped = 0; used = 0; unused = 0; subframes = 0; dsms = 0 };
+      totals = noTotals;
     }
 
 -- a new record, where satellite, week and first time are not refused with 2, 3, 4; "bytes or numbers that the form of an answer holds beside it are zero"
@@ -72,6 +75,10 @@ pub record Run : Type 0 where
   pub state : State
   pub subframes : List Time
   pub dsms : List Dsm
+
+-- no page yet
+abbrev pub start : State → Run
+start s = record { state = s; subframes = []; dsms = [] }
 
 -- "Others are skipped, and time still passes."
 unfoldable pub skipped : State → Run
@@ -166,8 +173,8 @@ counted s u f d =
 
 unfoldable pub fed : State → Page → Run
 fed s p =
-    counted s (isTaken (usedAnswer (s .subframes) p)) (feedPage (s .subframes) p)
-    (passedOn (feedPage (s .subframes) p .answer) (feedPage (s .subframes) p .state) (s .satellite) (s .dsms))
+    let f = feedPage (s .subframes) p in
+    counted s (isTaken (usedAnswer (s .subframes) p)) f (passedOn (f .answer) (f .state) (s .satellite) (s .dsms))
 
 -- A page step.
 unfoldable pub pageStep : State → List ℕ → Run
@@ -187,7 +194,7 @@ abbrev pub onward : Run → List (List ℕ) → Run
 onward r pages = afterAll andThen r pages
 
 unfoldable pub replayed : State → List (List ℕ) → Run
-replayed s pages = onward (record { state = s; subframes = []; dsms = [] }) pages
+replayed s pages = onward (start s) pages
 
 -- "bare 30-byte I/NAV pages": the first n pages of some bytes
 unfoldable pub pagesOf : ℕ → List ℕ → List (List ℕ)

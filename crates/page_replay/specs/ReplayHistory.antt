@@ -20,13 +20,12 @@ use Rattle.dsms.specs.DsmPromises.{state as dsmState}
 use Rattle.dsms.specs.DsmRecovery.{Call as Block, isAdmitted as isAdmittedBlock, fedTo, after as afterBlocks, run as runOfBlocks, Recovers as BlockRecovers}
 use Rattle.dsms.specs.DsmHistory.{History as DsmHistory}
 use Rattle.page_replay.specs.Replay.{Time, later, Dsm, Run, hkrootOf, subframesIn, dsmsIn, pagesOf, wholePages, most, replayed}
-use Rattle.page_replay.specs.Pieces.{goodPage}
+use Rattle.page_replay.specs.Pieces.{reported, goodPage}
 use Rattle.page_replay.specs.ReplayPromises.{state, meaning-replay, meaning-subframes, meaning-dsms, BeginReplay, ReplayPages}
 use Rattle.page_replay.specs.declared.replay.PageReplay.{PageReplay}
 use Rattle.page_replay.specs.declared.replay.Begun.{Begun}
 use Rattle.page_replay.specs.declared.replay.Begun.the-variants.{Ready}
 use Rattle.page_replay.specs.declared.replay.NewReplay.{NewReplay}
-use Rattle.page_replay.specs.declared.replay.ReplayAnswer.{ReplayAnswer}
 use Rattle.page_replay.specs.declared.replay.ReplayAnswer.the-variants.{Refused, Consumed}
 use Rattle.page_replay.specs.declared.replay.SubframeDone.the-variants.{None, Subframe}
 use Rattle.page_replay.specs.declared.replay.DsmDone.the-variants.{None as NoDsm}
@@ -39,11 +38,6 @@ pub record Beginning : Type 0 where
   pub mack : List ℕ
   pub memory : List ℕ
 
--- "and reports that number": a call that is refused consumes no page
-abbrev pub reported : ReplayAnswer → ℕ
-reported (Refused n) = 0
-reported (Consumed n) = n
-
 -- lent bytes that are not 540, 2,160 and 208
 abbrev pub Misfit : List ℕ → List ℕ → List ℕ → Type 0
 Misfit hkroot mack memory = (length hkroot ≡ 540) × (length mack ≡ 2160) × (length memory ≡ 208) → ⊥
@@ -54,13 +48,13 @@ pub data History (b : Beginning) : PageReplay → List ℕ → List ℕ → List
   begun : (satellite week time : ℕ) (a : Begun) → BeginReplay satellite week time (record { replay = b .replay; answer = a })
       → length (b .hkroot) ≡ 540 → length (b .mack) ≡ 2160 → length (b .memory) ≡ 208
       → History b (b .replay) (b .hkroot) (b .mack) (b .memory) [] [] []
-  -- a call with the record and the memory as they are, with any bytes and any budget
+  -- a call with the record and the memory as they are, with any bytes and any budget: "and reports that number", which is none where it is refused
   called : {c : PageReplay} {hkroot mack memory : List ℕ} {pages : List (List ℕ)} {subframes : List Time} {dsms : List Dsm}
       → History b c hkroot mack memory pages subframes dsms
       → (bytes : List ℕ) (budget : ℕ) (r : Replayed) (hkroot′ mack′ memory′ : List ℕ)
       → ReplayPages c hkroot mack memory bytes budget r hkroot′ mack′ memory′
-      → History b (r .replay) hkroot′ mack′ memory′ (pages ++ pagesOf (reported (r .answer)) bytes) (subframes ++ meaning-subframes (r .subframe))
-      (dsms ++ meaning-dsms (r .dsm))
+      → History b (r .replay) hkroot′ mack′ memory′ (pages ++ pagesOf (reported (meaning-replay (r .answer))) bytes)
+      (subframes ++ meaning-subframes (r .subframe)) (dsms ++ meaning-dsms (r .dsm))
   -- a call that was lent bytes x, y and z of other lengths, wherever they lie: `hkroot`, `mack` and `memory` say what the memory is where the lent bytes are
   -- these (it holds them as a part, or they lie elsewhere and it does not depend on them)
   misfit : {c : PageReplay} {x y z : List ℕ} {pages : List (List ℕ)} {subframes : List Time} {dsms : List Dsm}
@@ -114,28 +108,27 @@ abbrev pub blocksFed : Beginning → List (List ℕ) → List Block
 blocksFed b pages = blocksFrom (firstSubframes b) (pagesFed b pages)
 
 -- What holds after a history.
-pub record Recovered (b : Beginning) (c : PageReplay) (hkroot mack memory : List ℕ) (pages : List (List ℕ)) (subframes : List Time) (dsms : List Dsm) : Type 0
-  where
-    -- the calls did what one run over all pages that they consumed does
-    pub one-run : _≡_ {A = Run} (record { state = state c hkroot mack memory; subframes = subframes; dsms = dsms })
-        (replayed (state (b .replay) (b .hkroot) (b .mack) (b .memory)) pages)
-    -- the collectors are as new ones that were fed the pages and the blocks one by one, and these answered what the calls did
-    pub subframes-are : subframeState (c .subframes) hkroot mack ≡ afterPages (firstSubframes b) (pagesFed b pages)
-    pub dsms-are : dsmState (c .dsms) memory ≡ afterBlocks (firstDsms b) (blocksFed b pages)
-    pub subframes-answered : subframes ≡ subframesFrom (firstSubframes b) (pagesFed b pages)
-    pub dsms-answered : dsms ≡ dsmsFrom (firstDsms b) (blocksFed b pages)
-    -- the collectors refuse none of them
-    pub page-admitted : (ps qs : List Page) (p : Page) → pagesFed b pages ≡ ps ++ (p ∷ qs) → isAdmittedPage p ≡ true
-    pub block-admitted : (cs es : List Block) (d : Block) → blocksFed b pages ≡ cs ++ (d ∷ es) → isAdmittedBlock d ≡ true
-    -- each page and each block recovers: "In it all answers and completed messages are those a new collector gives. .."
-    pub page-recovers : (ps qs : List Page) (p : Page) → pagesFed b pages ≡ ps ++ (p ∷ qs)
-        → let s = afterPages (firstSubframes b) ps in PageRecovers s (runOfPages ps) p (feedPage s p)
-    pub block-recovers : (cs es : List Block) (d : Block) → blocksFed b pages ≡ cs ++ (d ∷ es)
-        → let s = afterBlocks (firstDsms b) cs in BlockRecovers s (runOfBlocks cs) d (fedTo s d)
-    -- the record's collectors and the memory are what histories of the collectors' own calls leave, so that all that `CodeRecovers` of `subframes` and of
-    -- `dsms` say holds of them: what their viewers show, and what they answer next
-    pub subframe-history : SubframeHistory (c .subframes) hkroot mack (pagesFed b pages)
-    pub dsm-history : DsmHistory (c .dsms) memory (blocksFed b pages)
+pub record Recovered (b : Beginning) (c : PageReplay) (hkroot mack memory : List ℕ) (pages : List (List ℕ)) (times : List Time) (dsms : List Dsm) : Type 0 where
+  -- the calls did what one run over all pages that they consumed does
+  pub one-run : _≡_ {A = Run} (record { state = state c hkroot mack memory; subframes = times; dsms = dsms })
+      (replayed (state (b .replay) (b .hkroot) (b .mack) (b .memory)) pages)
+  -- the collectors are as new ones that were fed the pages and the blocks one by one, and these answered what the calls did
+  pub subframes-are : subframeState (c .subframes) hkroot mack ≡ afterPages (firstSubframes b) (pagesFed b pages)
+  pub dsms-are : dsmState (c .dsms) memory ≡ afterBlocks (firstDsms b) (blocksFed b pages)
+  pub subframes-answered : times ≡ subframesFrom (firstSubframes b) (pagesFed b pages)
+  pub dsms-answered : dsms ≡ dsmsFrom (firstDsms b) (blocksFed b pages)
+  -- the collectors refuse none of them
+  pub page-admitted : (ps qs : List Page) (p : Page) → pagesFed b pages ≡ ps ++ (p ∷ qs) → isAdmittedPage p ≡ true
+  pub block-admitted : (cs es : List Block) (d : Block) → blocksFed b pages ≡ cs ++ (d ∷ es) → isAdmittedBlock d ≡ true
+  -- each page and each block recovers: "In it all answers and completed messages are those a new collector gives. .."
+  pub page-recovers : (ps qs : List Page) (p : Page) → pagesFed b pages ≡ ps ++ (p ∷ qs)
+      → let s = afterPages (firstSubframes b) ps in PageRecovers s (runOfPages ps) p (feedPage s p)
+  pub block-recovers : (cs es : List Block) (d : Block) → blocksFed b pages ≡ cs ++ (d ∷ es)
+      → let s = afterBlocks (firstDsms b) cs in BlockRecovers s (runOfBlocks cs) d (fedTo s d)
+  -- the record's collectors and the memory are what histories of the collectors' own calls leave, so that all that `CodeRecovers` of `subframes` and of
+  -- `dsms` say holds of them: what their viewers show, and what they answer next
+  pub subframe-history : SubframeHistory (c .subframes) hkroot mack (pagesFed b pages)
+  pub dsm-history : DsmHistory (c .dsms) memory (blocksFed b pages)
 
 abbrev pub ReplayRecovers : Type 0
 ReplayRecovers =

@@ -16,15 +16,15 @@ use subframes::subframe::SubframeFed;
 use subframes::subframe::WordAnswer;
 ghost use mathlib.Core.Path.{_≡_};
 ghost use mathlib.Core.List.{List};
-ghost use Prim.Native.Nat.{ℕ, _+_, _^_, _≤_};
+ghost use Prim.Native.Nat.{ℕ, _+_, _^_};
 ghost use lib.ListN.{length};
 ghost use Rattle.page_replay.specs.Replay.{isTaken, hkrootOf, fedHkroot, passedOn, subframesIn, dsmsIn, one as oneOf, skipped as skippedOf};
 ghost use Rattle.page_replay.specs.Replay.{counted as countedOf, fed as fedOf, pageStep};
 ghost use Rattle.layouts.specs.InavPage.{isCounted, osnma as osnmaOf};
 ghost use Rattle.subframes.specs.SubframePromises.{outcome as subframeOutcome, meaning-subframe, meaning-word, state as subframeState};
-ghost use Rattle.dsms.specs.DsmPromises.{meaning-dsm, state as dsmState};
+ghost use Rattle.dsms.specs.DsmPromises.{outcome as dsmOutcome, meaning-dsm, state as dsmState};
 ghost use Rattle.page_replay.specs.ReplayPromises.{state, meaning-subframes, meaning-dsms};
-ghost use Rattle.page_replay.specs.inner.Steps.{dsmOutcome, ran, Room, InRange};
+ghost use Rattle.page_replay.specs.inner.Steps.{ran, Room, InRange};
 
 // What pages made of a replay, and what they completed.
 pub(crate) struct Stepped {

@@ -13,6 +13,7 @@ use Rattle.layouts.specs.Answer.{refusal}
 use Rattle.storage.specs.Store.{Storage, State, Asked, Call, Outcome, entry, legalEntry, legalTime, legalEntries, legalPlace, legal, isTime, hasTime}
 use Rattle.storage.specs.Store.{storeChecks, nextPlace, moves, placeFor, numberFor, placeOf, numberOf, entered, stored, store, newStorage}
 use lib.Seq.{getD-set-same, getD-set-other}
+use Rattle.storage.specs.inner.Places.{Long}
 use Rattle.storage.specs.StoreKeeps.{newStore, next, after, firstByte, isStored}
 use Rattle.storage.proofs.Bytes.{put-long}
 use Rattle.storage.proofs.Searches.{and-left, and-right, all-at, and-both, all-intro}
@@ -30,15 +31,6 @@ apart messages q i p j hi hj ne e = go (ltb q p) refl (ltb p q) refl
         let same : q ≡ p = omega (arith, ltb-false q p x, ltb-false p q y) in
         let f : messages * p + i ≡ messages * p + j = rw same at e in
         ne same (omega arith)
-
--- the lists have their lengths
-pub record Long (messages times : ℕ) (o : Storage) : Type 0 where
-  pub timed-long : length (o .timed) ≡ times
-  pub weeks-long : length (o .weeks) ≡ times
-  pub tows-long : length (o .tows) ≡ times
-  pub counts-long : length (o .counts) ≡ times
-  pub satellites-long : length (o .satellites) ≡ messages * times
-  pub statuses-long : length (o .statuses) ≡ messages * times
 
 -- What holds of every state that calls lead to.
 pub record Sound (messages times : ℕ) (s : State) : Type 0 where

@@ -18,7 +18,8 @@ use Rattle.subframes.specs.SubframePromises.{state, meaning-subframe, me
 use Rattle.subframes.specs.TracePromises.{outcome-all, FeedAll}
 use Rattle.subframes.specs.SubframeRecovery.{isAdmitted, before, run, after, noPage, hasWord, Words, ComesOut, Alike, Viewed, Recovers}
 use Rattle.subframes.specs.SubframeHistory.{Call, one, many, Misfit, History, begun, called, misfit, looked, ShowsPair, ShowsNone, FeedRecovers}
-use Rattle.subframes.specs.SubframeHistory.{FeedAllRecovers, MisfitRefused, CodeRecovers, AnyPages, wordPage, wordsFrom, WordsExample, SmallestCase}
+use Rattle.subframes.specs.SubframeHistory.{FeedAllRecovers, MisfitRefused, CodeRecovers, AnyPages}
+use Rattle.subframes.specs.SubframeHistory.{wordPage, wordsFrom, shortPage, WordsExample, SmallestCase}
 use Rattle.runs.proofs.Rising.{reaches}
 use Rattle.subframes.specs.declared.subframe.CollectSubframe.{CollectSubframe}
 use Rattle.subframes.specs.declared.subframe.SubframeAnswer.{SubframeAnswer}
@@ -383,6 +384,13 @@ fourteen-then : (f : Fed) → Alike f (feed (after (new (replicate 540 0) (repli
 unfolding feed offered used changed answerAt refusal small
 fourteen-then f a = a .answer
 
+short-then : (f : Fed)
+    → Alike f
+    (feed (after (new (replicate 540 0) (replicate 2160 0)) (before (run (wordsFrom 0 7 ++ (shortPage ∷ wordsFrom 8 6))) (wordPage 14))) (wordPage 14))
+    → f .answer ≡ nothing
+unfolding feed offered used changed answerAt refusal small
+short-then f a = a .answer
+
 fifteenth : isAdmitted (wordPage 14) ≡ true
 unfolding refusal
 fifteenth = refl
@@ -397,4 +405,8 @@ smallest-case =
           let f = feed-recovers k (wordPage 14) r h′ m′ e in
           answer-back (r .answer) (Complete 1200 60)
           (fourteen-then (outcome r h′ m′) (f .recovers .like-new (replicate 540 0) (replicate 2160 0) refl refl fifteenth));
+      stays-out = λ k r h′ m′ e.
+          let f = feed-recovers k (wordPage 14) r h′ m′ e in
+          answer-back (r .answer) Nothing
+          (short-then (outcome r h′ m′) (f .recovers .like-new (replicate 540 0) (replicate 2160 0) refl refl fifteenth));
     }

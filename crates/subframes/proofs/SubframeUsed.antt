@@ -5,11 +5,11 @@ use native.Mathlib.Omega.{arith}
 use mathlib.Core.Path.{_≡_, refl, sym, ap, _∙_}
 use mathlib.Core.List.{List, []}
 use mathlib.Core.Bool.{Bool, true, false, cond, _&&_}
-use lib.ListN.{getD, replicate}
+use lib.ListN.{getD}
 use lib.Dec.{eqb}
 use Rattle.layouts.specs.Answer.{Answer, refused, nothing, gives, Check, refusal}
 use Rattle.layouts.proofs.Answers.{none-fails}
-use Rattle.subframes.specs.Subframe.{State, Page, wordOf, subframeOf, small, rangeChecks, askChecks, feedChecks, changed, offered, isUsed}
+use Rattle.subframes.specs.Subframe.{State, Page, wordOf, subframeOf, small, rangeChecks, askChecks, feedChecks, fresh, changed, offered, isUsed}
 use Rattle.subframes.specs.Subframe.{feed, usedAnswer}
 use Rattle.subframes.specs.SubframePromises.{state, call}
 use Rattle.subframes.specs.SubframeUsed.{UsedIsTaken, UsedIsAsked, UsedExample}
@@ -26,10 +26,7 @@ counts-alone :
 unfolding changed
 counts-alone c h m week subframe = go (eqb (c .week) week && eqb (c .subframe) subframe)
   where
-    fresh : List ℕ → List ℕ → State
-    fresh x y = record { week = week; subframe = subframe; counts = replicate 36 0; hkroot = x; mack = y }
-
-    go : (b : Bool) → cond b (state c [] []) (fresh [] []) .counts ≡ cond b (state c h m) (fresh h m) .counts
+    go : (b : Bool) → cond b (state c [] []) (fresh (state c [] []) week subframe) .counts ≡ cond b (state c h m) (fresh (state c h m) week subframe) .counts
     go true = refl
     go false = refl
 

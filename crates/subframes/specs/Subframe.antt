@@ -63,7 +63,8 @@ feedChecks s p = 1 when not (eqb (length (p .bytes)) 5) ∷ recordChecks s ++ sv
 abbrev pub takes : ℕ → ℕ → Bool
 takes count word = eqb word count
 
--- "One satellite's count takes a word number and hands back its next state.": a count above 15 is 12, a word above 14 is 7, and the count stays as it was
+-- "One satellite's count takes a word number and hands back its next state.": a count above 15 is 12, a word above 14 is 7. "Records and lent memory keep
+-- their contents": the count then stays as it was.
 pub record WordStep : Type 0 where
   pub next : ℕ
   pub answer : Answer

@@ -18,7 +18,7 @@ use Rattle.subframes.specs.SubframeRecovery.{isAdmitted, before, run, af
 use Rattle.runs.specs.Rising.{Earliest}
 use Rattle.subframes.specs.declared.subframe.CollectSubframe.{CollectSubframe}
 use Rattle.subframes.specs.declared.subframe.SubframeAnswer.{SubframeAnswer}
-use Rattle.subframes.specs.declared.subframe.SubframeAnswer.the-variants.{Refused, Complete}
+use Rattle.subframes.specs.declared.subframe.SubframeAnswer.the-variants.{Refused, Nothing, Complete}
 use Rattle.subframes.specs.declared.subframe.SubframeFed.{SubframeFed}
 use Rattle.subframes.specs.declared.subframe.HkrootMessage.{HkrootMessage}
 use Rattle.subframes.specs.declared.subframe.Message.{Message}
@@ -151,6 +151,10 @@ abbrev pub wordsFrom : ℕ → ℕ → List Page
 wordsFrom word zero = []
 wordsFrom word (suc n) = wordPage word ∷ wordsFrom (suc word) n
 
+-- word 7 with 4 bytes, which is refused
+abbrev pub shortPage : Page
+shortPage = call (replicate 4 0) 7 1200 74
+
 -- Fifteen of them contain words 0 to 14 in that order, fourteen do not.
 pub record WordsExample : Type 0 where
   pub fifteen : Words 7 (run (wordsFrom 0 15))
@@ -165,3 +169,6 @@ pub record SmallestCase : Type 0 where
   -- so that words 7 to 13 make it a history of 14 words, and the last one completes
   pub comes-out : {c : CollectSubframe} {hkroot mack : List ℕ} → History c hkroot mack (wordsFrom 0 7 ++ wordsFrom 7 7)
       → (r : SubframeFed) (hkroot′ mack′ : List ℕ) → FeedSubframe c hkroot mack (wordPage 14) r hkroot′ mack′ → r .answer ≡ Complete 1200 60
+  -- where the refused call was to bring word 7, with 4 bytes, the pair does not come out
+  pub stays-out : {c : CollectSubframe} {hkroot mack : List ℕ} → History c hkroot mack (wordsFrom 0 7 ++ (shortPage ∷ wordsFrom 8 6))
+      → (r : SubframeFed) (hkroot′ mack′ : List ℕ) → FeedSubframe c hkroot mack (wordPage 14) r hkroot′ mack′ → r .answer ≡ Nothing

@@ -28,14 +28,12 @@ fn restart(counts: &mut [u8; 36], week: u16, subframe: u16, to_week: u16, to_sub
     ensures { λ r. ⌜ ((h m : List ℕ) → stateOf «to_week» «to_subframe» (now (counts .exit)) h m
         ≡ changed (stateOf week subframe (now (counts .entry)) h m) «to_week» «to_subframe») ⌝ }
 {
-    if week != to_week {
-        *counts = [0; 36];
-        return;
+    if week == to_week {
+        if subframe == to_subframe {
+            return;
+        }
     }
-    if subframe != to_subframe {
-        *counts = [0; 36];
-        return;
-    }
+    *counts = [0; 36];
 }
 
 // A page's first byte goes to one place, the other four to the other. All are read before any is written, so that the compiler can move the four as one

@@ -285,14 +285,14 @@ fn has_next_word(collector: CollectSubframe, satellite: u8, week: u16, time: u32
     ensures { λ r. ⌜ r ≡ isUsed (state collector [] []) (call [] satellite week time) ⌝ }
 {
     let word = (time / 2 % 15) as u8;
-    if collector.week != week {
-        return word == 0;
-    }
-    if collector.subframe != (time / 30) as u16 {
-        return word == 0;
-    }
     let i = (satellite - 1) as usize;
-    word == collector.counts[i]
+    let count = collector.counts[i];
+    if collector.week == week {
+        if collector.subframe == (time / 30) as u16 {
+            return word == count;
+        }
+    }
+    word == 0
 }
 
 // Whether `feed` would use a page of that satellite, week and time. Refuses 12 for the record, 2, 3, 4 for satellite, week and time.

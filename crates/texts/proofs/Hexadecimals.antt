@@ -8,9 +8,9 @@ use native.Mathlib.Omega.{arith}
 use lib.ListN.{length, getD, take}
 use lib.Seq.{take-all, ext-getD}
 use lib.Dec.{leb, ltb, eqb}
-use borrow.Author.Tests.{lt-ltb, le-ltb, lt-leb, le-leb, leb-true, eq-eqb, ne-eqb, eqb-true, eqb-false}
+use borrow.Author.Tests.{lt-ltb, le-ltb, ltb-true, ltb-false, lt-leb, le-leb, leb-true, eq-eqb, ne-eqb, eqb-true, eqb-false}
 use Rattle.texts.specs.Decimal.{only}
-use Rattle.texts.specs.Hexadecimal.{digitOf, isHexDigit, isHexadecimal, bytesOf, letter, capitals, same}
+use Rattle.texts.specs.Hexadecimal.{digitOf, isHexDigit, isHexadecimal, bytesOf, letter, capitals, same, CapitalsSay}
 use Rattle.texts.proofs.Decimals.{both, only-more, only-not, only-at}
 
 -- the value of a digit
@@ -175,3 +175,47 @@ same-more text t k f e g j h = go (eqb j k) refl
     go : (b : Bool) → eqb j k ≡ b → getD text j 0 ≡ getD t j 0
     go true q = rw (eqb-true j k q) (g ∙ e)
     go false q = f j (omega (arith, eqb-false j k q))
+
+-- what is written can be read
+digit-letter : (d : ℕ) → d < 16 → digitOf (letter d) ≡ d
+digit-letter d h = go (ltb d 10) refl
+  where
+    go : (b : Bool) → ltb d 10 ≡ b → digitOf (letter d) ≡ d
+    go true e =
+        let l = ltb-true d 10 e in
+        let v : 48 + d - 48 ≡ d = omega arith in
+        ap digitOf (sym (low-letter l)) ∙ sym (zero-nine (omega arith) (omega arith)) ∙ v
+    go false e =
+        let l = ltb-false d 10 e in
+        let v : 55 + d - 55 ≡ d = omega arith in
+        ap digitOf (sym (high-letter l)) ∙ sym (capital-letter (omega arith) (omega arith)) ∙ v
+
+module _ (b : ℕ) (h : b < 256) where
+  high-digit : digitOf (letter (b / 16)) ≡ b / 16
+  high-digit = digit-letter (b / 16) (omega arith)
+
+  low-digit : digitOf (letter (b % 16)) ≡ b % 16
+  low-digit = digit-letter (b % 16) (omega arith)
+
+capitals-hex : (s : List ℕ) → only (λ b. ltb b 256) s ≡ true → only isHexDigit (capitals s) ≡ true
+unfolding only capitals
+capitals-hex [] e = refl
+capitals-hex (b ∷ s) e =
+    let h = both (ltb b 256) (only (λ b. ltb b 256) s) e in
+    let l = ltb-true b 256 (h .0) in
+    rw (high-digit b l, low-digit b l, le-leb (b / 16) 15 (omega arith), le-leb (b % 16) 15 (omega arith), capitals-hex s (h .1))
+
+capitals-bytes : (s : List ℕ) → only (λ b. ltb b 256) s ≡ true → bytesOf (capitals s) ≡ s
+unfolding only capitals bytesOf
+capitals-bytes [] e = refl
+capitals-bytes (b ∷ s) e =
+    let h = both (ltb b 256) (only (λ b. ltb b 256) s) e in
+    let l = ltb-true b 256 (h .0) in
+    let v : 16 * (b / 16) + b % 16 ≡ b = omega arith in
+    rw (high-digit b l, low-digit b l, v, capitals-bytes s (h .1))
+
+pub capitals-say : CapitalsSay
+capitals-say s e = (
+  rw (eq-eqb (length (capitals s) % 2) 0 (omega (arith, capitals-long s)), capitals-hex s e),
+  capitals-bytes s e,
+)

@@ -43,3 +43,7 @@ same (a ∷ s) (b ∷ t) = eqb a b && same s t
 -- the text is the bytes' digits, in capital letters
 abbrev pub Spells : List ℕ → List ℕ → Bool → Type 0
 Spells text bytes r = r ≡ same text (capitals bytes)
+
+-- What is written can be read: the digits of bytes are hexadecimal and spell those bytes.
+abbrev pub CapitalsSay : Type 0
+CapitalsSay = (s : List ℕ) → only (λ b. ltb b 256) s ≡ true → (isHexadecimal (capitals s) ≡ true) × (bytesOf (capitals s) ≡ s)

@@ -3,17 +3,10 @@
 use Prim.Native.Nat.{ℕ, _≤_}
 use mathlib.Core.List.{List}
 use lib.ListN.{length}
-use Rattle.dsms.specs.Dsm.{Fed}
-use Rattle.dsms.specs.DsmPromises.{meaning-dsm, state as dsmState}
 use Rattle.page_replay.specs.Replay.{Run}
 use Rattle.page_replay.specs.ReplayPromises.{state, meaning-subframes, meaning-dsms}
-use Rattle.dsms.specs.declared.dsm.DsmFed.{DsmFed}
 use Rattle.page_replay.specs.declared.replay.PageReplay.{PageReplay}
 use Rattle.page_replay.specs.declared.page_step.Stepped.{Stepped}
-
--- the DSM collector's record and answer, with the lent bytes then
-abbrev pub dsmOutcome : DsmFed → List ℕ → Fed
-dsmOutcome r memory = record { state = dsmState (r .collector) memory; answer = meaning-dsm (r .answer) }
 
 -- what pages made of a replay, with the lent bytes then
 abbrev pub ran : Stepped → List ℕ → List ℕ → List ℕ → Run

@@ -32,14 +32,18 @@ timeIs timed weeks tows week time p = isTime (getD timed p false) (getD weeks p 
 abbrev pub sentBy : List ℕ → ℕ → ℕ → ℕ → Bool
 sentBy satellites at satellite j = eqb (getD satellites (at + j) 0) satellite
 
--- the lists of a store have the lengths of so many messages and times
-pub record Fits (messages times : ℕ) (o : Storage) : Type 0 where
+-- the lists of a store have the lengths of so many messages and times ..
+pub record Long (messages times : ℕ) (o : Storage) : Type 0 where
   pub timed-long : length (o .timed) ≡ times
   pub weeks-long : length (o .weeks) ≡ times
   pub tows-long : length (o .tows) ≡ times
   pub counts-long : length (o .counts) ≡ times
   pub satellites-long : length (o .satellites) ≡ messages * times
   pub statuses-long : length (o .statuses) ≡ messages * times
+
+-- .. and the messages can be counted
+pub record Fits (messages times : ℕ) (o : Storage) : Type 0 where
+  pub long : Long messages times o
   pub few : messages * times ≤ 65535
 
 -- what is asked, as the definitions have it

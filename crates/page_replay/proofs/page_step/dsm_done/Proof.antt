@@ -1,4 +1,4 @@
--- `replay::dsm_done`: its ID and its length, whatever its type.
+-- `page_step::dsm_done`: its ID and its length, whatever its type.
 -- Assumes nothing.
 use Rattle.page_replay.proofs.PageSteps.{dsm-is}
 use borrow.Author.Needs.{needs}

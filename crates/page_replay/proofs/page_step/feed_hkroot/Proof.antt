@@ -1,4 +1,4 @@
--- `replay::feed_hkroot`: the message as the subframe collector hands it over.
+-- `page_step::feed_hkroot`: the message as the subframe collector hands it over.
 -- Assumes nothing.
 use Rattle.page_replay.proofs.PageSteps.{hkroot-fed}
 use borrow.Author.Needs.{needs}

@@ -1,4 +1,4 @@
--- `replay::feed_message`: a call of the DSM collector.
+-- `page_step::feed_message`: a call of the DSM collector.
 -- Assumes nothing.
 use Rattle.page_replay.specs.Replay.{fedHkroot}
 use borrow.Author.Needs.{needs}

@@ -1,4 +1,4 @@
--- `replay::feed_page`: a page step of the definition, one function for each part.
+-- `page_step::feed_page`: a page step of the definition, one function for each part.
 -- Assumes nothing.
 use Rattle.subframes.specs.SubframePromises.{outcome}
 use Rattle.page_replay.specs.ReplayPromises.{state}

@@ -1,4 +1,4 @@
--- `replay::page_step`: skipped, or fed to the collectors.
+-- `page_step::page_step`: skipped, or fed to the collectors.
 -- Assumes nothing.
 use Rattle.page_replay.specs.Replay.{State}
 use Rattle.page_replay.specs.inner.Steps.{ran}

@@ -1,4 +1,4 @@
--- `replay::pass_on`: a complete message is handed over whole.
+-- `page_step::pass_on`: a complete message is handed over whole.
 -- Assumes nothing.
 use Rattle.page_replay.proofs.PageSteps.{passed-refused, passed-nothing, passed-hkroot}
 use borrow.Author.Needs.{needs}

@@ -1,4 +1,4 @@
--- `replay::skip`: only the time and two totals change.
+-- `page_step::skip`: only the time and two totals change.
 -- Assumes nothing.
 use Rattle.page_replay.specs.ReplayPromises.{state}
 use Rattle.page_replay.proofs.PageSteps.{skipped-is}

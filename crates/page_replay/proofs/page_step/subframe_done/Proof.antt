@@ -1,4 +1,4 @@
--- `replay::subframe_done`: its time.
+-- `page_step::subframe_done`: its time.
 -- Assumes nothing.
 use Rattle.page_replay.proofs.PageSteps.{subframe-is}
 use borrow.Author.Needs.{needs}

@@ -1,8 +1,8 @@
--- `replay::tally`: each total goes on by at most one.
+-- `page_step::tally`: each total goes on by at most one.
 -- Assumes nothing.
 use mathlib.Core.Bool.{not}
 use Rattle.subframes.specs.SubframePromises.{outcome}
-use Rattle.page_replay.specs.inner.Steps.{dsmOutcome}
+use Rattle.dsms.specs.DsmPromises.{outcome as dsmOutcome}
 use Rattle.page_replay.specs.ReplayPromises.{state}
 use native.Mathlib.Omega.{arith}
 use Rattle.page_replay.proofs.PageSteps.{counted-is, one-few, subframes-few, dsms-few}

@@ -77,7 +77,7 @@ mul-entries-legal : tie.Need-mul-entries-legal Inv-loop μ-loop
 mul-entries-legal c = omega (arith, within c, start c .pre .few)
 
 entries-legal-requires : tie.Need-entries-legal-requires Inv-loop μ-loop
-entries-legal-requires c κs = (omega (arith, within c, start c .pre .satellites-long), omega (arith, within c, start c .pre .statuses-long))
+entries-legal-requires c κs = (omega (arith, within c, start c .pre .long .satellites-long), omega (arith, within c, start c .pre .long .statuses-long))
 
 returns-3 : tie.Need-returns-3 Inv-loop μ-loop
 returns-3 c = search place-entries-off

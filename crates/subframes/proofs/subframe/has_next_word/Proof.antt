@@ -2,6 +2,7 @@
 -- Assumes nothing.
 use native.Mathlib.Omega.{arith}
 use mathlib.Core.List.{[]}
+use mathlib.Core.Logic.{⊎-elim}
 use Prim.Native.Nat.{_≤_}
 use Rattle.subframes.specs.Subframe.{State, Page}
 use Rattle.subframes.specs.SubframePromises.{state, call}
@@ -23,28 +24,26 @@ in-range c = asked-is (s c) (p c) (c .pre)
 cast-word : tie.Need-cast-word
 cast-word c = search needs
 
-returns : tie.Need-returns
-returns c = used-other-week (s (c .before)) (p (c .before)) (c .before .pre) (c .if1 .taken)
-
-cast-if2 : tie.Need-cast-if2
-cast-if2 c = omega (arith, in-range (c .before) .2)
-
-returns-2 : tie.Need-returns-2
-returns-2 c = let b = c .before .before in used-other-subframe (s b) (p b) (b .pre) (c .before .if1 .left) (c .if2 .taken)
-
 sub-i : tie.Need-sub-i
-sub-i c = in-range (c .before .before) .0
+sub-i c = in-range c .0
 
 cast-i : tie.Need-cast-i
 cast-i c = search needs
 
-element-copy-out-result : tie.Need-element-copy-out-result
-element-copy-out-result c = let i = in-range (c .before .before) in omega (arith, i .0, i .1)
+element-copy-out-count : tie.Need-element-copy-out-count
+element-copy-out-count c = let i = in-range c in omega (arith, i .0, i .1)
 
-returns-3 : tie.Need-returns-3
-returns-3 c = let b = c .before .before .before in used-same (s b) (p b) (b .pre) (c .before .before .if1 .left) (c .before .if2 .left)
+cast-if2 : tie.Need-cast-if2
+cast-if2 c = omega (arith, in-range (c .before .before) .2)
+
+returns : tie.Need-returns
+returns c = let b = c .before .before .before in used-same (s b) (p b) (b .pre) (c .before .if1 .taken) (c .if2 .taken)
+
+returns-2 : tie.Need-returns-2
+returns-2 c =
+    let b = c .before .before in
+    ⊎-elim (λ x. used-other-subframe (s b) (p b) (b .pre) (x .0 .taken) (x .1 .left)) (λ x. used-other-week (s b) (p b) (b .pre) (x .left)) (c .if1 .came)
 
 pub has-next-word-spec : {M : Type 1} → statement M
 has-next-word-spec =
-    tie.close
-    (tie.spec cast-word returns cast-if2 returns-2 sub-i cast-i element-copy-out-result returns-3)
+    tie.close (tie.spec cast-word sub-i cast-i element-copy-out-count cast-if2 returns returns-2)

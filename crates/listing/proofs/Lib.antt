@@ -1,0 +1,6 @@
+pub mod Examples
+pub mod Histories
+pub mod KrootExample
+pub mod Pages
+pub mod PieceSteps
+pub mod Putting

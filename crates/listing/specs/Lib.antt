@@ -1,0 +1,6 @@
+pub mod Examples
+pub mod Histories
+pub mod Listing
+pub mod PiecePromises
+pub mod Pieces
+pub mod inner

@@ -1,0 +1,3 @@
+-- For the prover alone: no promise cites a file of this folder.
+pub mod Puts
+pub mod Steps
