@@ -27,9 +27,10 @@ use Rattle.layouts.specs.declared.maclt.MacLTSlot.{MacLTSlot}
 use Rattle.layouts.specs.declared.maclt.MacLTSlot.the-variants.{Fixed, Flex}
 use Rattle.layouts.specs.declared.maclt.MacLTSlotAnswer.{MacLTSlotAnswer}
 use Rattle.layouts.specs.declared.maclt.MacLTSlotAnswer.the-variants.{Slot as SlotIs, Refused as SlotRefused}
-use Rattle.firmware.specs.Outcome.{One, one, Told, Two, two, Placed, slot, Slotted, Bytes, bytes, Counted, counted}
+use Rattle.firmware.specs.Outcome.{One, one, Told, Two, two, Placed, Slot, slot, Slotted, Bytes, bytes, Counted, counted}
 use Rattle.layouts.specs.Maclt.{Row, row, table, rowOf, entry, flxIndices, ntOf}
-use Rattle.firmware.specs.Arguments.{ofHeader, SameId}
+use Rattle.firmware.specs.Arguments.{ofHeader}
+use Rattle.firmware.specs.inner.Ids.{SameId}
 
 -- the answer is what the reader's promise says
 pub told-by : (b : ℕ) {x a : Answer} {o : One} → x ≡ a → o ≡ one b x → o ≡ one b a
@@ -37,6 +38,9 @@ told-by b e h = h ∙ ap (one b) e
 
 pub placed-by : (a b : ℕ) {x y : Answer} {o : Two} → x ≡ y → o ≡ two a b x → o ≡ two a b y
 placed-by a b e h = h ∙ ap (two a b) e
+
+pub slotted-by : (a b c : ℕ) {x y : Answer} {o : Slot} → x ≡ y → o ≡ slot a b c x → o ≡ slot a b c y
+slotted-by a b c e h = h ∙ ap (slot a b c) e
 
 -- each case of an answer
 pub value-told : (b : ℕ) {x : Number} {v : ℕ} → x ≡ Value v → Told b 0 v (meaning-number x)

@@ -8,3 +8,4 @@ pub mod Mack
 pub mod Maclt
 pub mod Manual
 pub mod Agreed
+pub mod inner

@@ -3,7 +3,7 @@ use crate::tell;
 use layouts::answer::Number;
 ghost use mathlib.Core.Path.{_≡_};
 ghost use lib.ListN.{length};
-ghost use Rattle.firmware.specs.Arguments.{SameId};
+ghost use Rattle.firmware.specs.inner.Ids.{SameId};
 ghost use Rattle.firmware.specs.Maclt.{GetMacltEntry, GetFlxIndices, MacltNt};
 
 // The ID as the table takes it; 0, which the table has not, for a number that is no byte.

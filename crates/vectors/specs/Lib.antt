@@ -1,1 +1,1 @@
-pub mod Little
+pub mod inner

@@ -3,7 +3,7 @@ use crate::found::Found;
 ghost use mathlib.Core.Path.{_≡_};
 ghost use mathlib.Core.Bool.{true};
 ghost use Prim.Native.Nat.{_+_, _*_, _≤_, _<_};
-ghost use Rattle.vectors.specs.Little.{fourOf};
+ghost use Rattle.vectors.specs.inner.Little.{fourOf};
 
 pub(crate) struct Record {
     pub function: u8,

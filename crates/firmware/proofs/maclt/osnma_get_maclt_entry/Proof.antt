@@ -1,7 +1,7 @@
 -- `osnma_get_maclt_entry`: what the table says of the ID.
 -- Assumes nothing.
-use mathlib.Core.Path.{ap, _∙_}
-use Rattle.firmware.specs.Outcome.{slot}
+use mathlib.Core.Path.{_∙_}
+use Rattle.firmware.proofs.Telling.{slotted-by}
 use borrow.Author.Needs.{needs}
 use Rattle.firmware.proofs.maclt.osnma_get_maclt_entry.Statement.{statement}
 use Rattle.firmware.proofs.maclt.osnma_get_maclt_entry.Tie as tie
@@ -19,9 +19,12 @@ returns : tie.Need-returns
 returns c =
     let d = c .before .before .before .before in
     let a = d .before .before .args in
-    c .slot .ensures
-    ∙ ap (slot (a .flex .now) (a .adkd .now) (a .object .now))
+    slotted-by
+    (a .flex .now)
+    (a .adkd .now)
+    (a .object .now)
     (d .get-maclt-entry .ensures ∙ d .before .table-id .ensures .entries (a .message) (a .tag))
+    (c .slot .ensures)
 
 pub osnma-get-maclt-entry-spec : {M : Type 1} → statement M
 osnma-get-maclt-entry-spec =
