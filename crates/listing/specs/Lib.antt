@@ -1,3 +1,4 @@
+pub mod Agreed
 pub mod Examples
 pub mod Histories
 pub mod Listing

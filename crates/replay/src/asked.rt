@@ -1,14 +1,9 @@
 // The program's arguments.
-use texts::arguments;
-use texts::arguments::Arguments;
+use crate::job;
+use crate::job::Done;
+use crate::say;
 ghost use mathlib.Core.Path.{_≡_};
 ghost use lib.ListN.{length};
-
-pub enum Asked {
-    Read(Arguments),
-    // One of the three does not fit its space, so that nothing is known of it.
-    TooLong,
-}
 
 // Room for any argument that Linux on x86-64 hands over: it has at most 131,071 bytes.
 fn space() -> [u8; 131072]
@@ -30,7 +25,8 @@ fn is_whole() -> bool {
     os::errno() != libc::ENAMETOOLONG
 }
 
-pub fn arguments() -> Asked {
+// What the arguments ask for. One that does not fit its space cannot be read.
+pub(crate) fn begun(out: &mut [u8]) -> Done {
     let many = count();
     let mut satellite = space();
     let a = os::arg(1, &mut satellite);
@@ -41,8 +37,10 @@ pub fn arguments() -> Asked {
     let mut time = space();
     let c = os::arg(3, &mut time);
     let third = is_whole();
+    let begun = job::begin(many, &satellite[..a], &week[..b], &time[..c], out);
     if many == 3 && !(first && second && third) {
-        return Asked::TooLong;
+        say::too_long();
+        return job::stopped(begun);
     }
-    Asked::Read(arguments::read(many, &satellite[..a], &week[..b], &time[..c]))
+    begun
 }
