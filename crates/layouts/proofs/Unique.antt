@@ -282,7 +282,7 @@ flx-indices i message r s p q =
 pub agreed : Agreed
 agreed =
     record {
-      wide = λ x. plain _;
+      wide = λ x r s p q. p .0 ∙ sym (q .0);
       smaller = λ a b. plain _;
       svn-refuses = λ satellite. plain _;
       gst-refuses = λ satellite week time. plain _;

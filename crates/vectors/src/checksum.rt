@@ -1,5 +1,5 @@
 // The Adler-32 checksum of a file. It shows a change of the bytes of a message that no replayed field reads.
-use crate::records;
+use layouts::numbers;
 
 struct Sum {
     a: u64,
@@ -13,7 +13,7 @@ fn added(s: Sum, bytes: &[u8]) -> Sum {
     let mut b = s.b % 65521;
     let mut i = 0;
     while i < bytes.len() {
-        a = (a + records::wide(bytes[i])) % 65521;
+        a = (a + numbers::wide(bytes[i])) % 65521;
         b = (b + a) % 65521;
         i += 1;
     }

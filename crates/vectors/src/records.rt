@@ -1,5 +1,6 @@
 // The records of answers.bin, little endian: a head of 40 bytes, the message, the output.
 use crate::found::Found;
+use layouts::numbers::wide;
 ghost use mathlib.Core.Path.{_≡_};
 ghost use mathlib.Core.Bool.{true};
 ghost use Prim.Native.Nat.{_+_, _*_, _≤_, _<_};
@@ -25,13 +26,6 @@ pub(crate) enum Next {
     // The file ends inside a record.
     Cut,
     End,
-}
-
-// As `numbers::wide` of `layouts`, and with the bound, which the sums below need.
-pub(crate) fn wide(x: u8) -> u64
-    ensures { λ r. ⌜ (r ≡ x) × (r < 256) ⌝ }
-{
-    x as u64
 }
 
 // The number of the four bytes from `at` on. `eight`: of eight.

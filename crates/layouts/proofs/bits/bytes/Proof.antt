@@ -33,7 +33,7 @@ joined-requires c κs =
     let a = c .before .before .before .before .before .args in
     let h = c .before .before .before .loop in (
       omega arith,
-      omega (arith, c .wide .ensures, c .before .shared-slice-known2 .given (a .first + h .i)),
+      omega (arith, c .wide .ensures .0, c .before .shared-slice-known2 .given (a .first + h .i)),
       rw (h .inv .1) (field-room (a .s .now) (8 * a .first) (8 * h .i) 8 (omega arith)),
     )
 
@@ -48,7 +48,7 @@ loop-again c =
     let a = c .before .before .before .before .before .before .args in
     let h = c .before .before .before .before .loop in (
       omega arith,
-      c .joined .ensures ∙ rw (h .inv .1, c .before .wide .ensures)
+      c .joined .ensures ∙ rw (h .inv .1, c .before .wide .ensures .0)
           (field-next (a .s .now) (a .first) (h .i) (omega (arith, c .before .before .shared-slice-known2 .given (a .first + h .i)))),
     )
 

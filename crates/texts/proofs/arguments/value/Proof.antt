@@ -24,7 +24,7 @@ digit-here c =
     let h = c .before .before .before .loop in
     let s = c .before .before .before .before .before in
     let d = digit-at (s .args .text .now) (h .i) (s .pre) (omega arith) in
-    (omega (arith, d .0, c .wide .ensures), omega (arith, d .1, c .wide .ensures))
+    (omega (arith, d .0, c .wide .ensures .0), omega (arith, d .1, c .wide .ensures .0))
 
 loop-holds : tie.Need-loop-holds Inv-loop μ-loop
 loop-holds c = (omega arith, omega (arith, number-none (c .before .args .text .now)))
