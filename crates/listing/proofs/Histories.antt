@@ -1,12 +1,12 @@
 -- Whatever history of calls: what the code wrote is the listing of what it took.
 -- Assumes nothing.
-use Prim.Native.Nat.{ℕ, _+_, _-_, _*_, _/_, _%_, _≤_, _<_, min}
+use Prim.Native.Nat.{ℕ, _+_, _-_, _*_, _/_, _%_, _≤_, min}
 use native.Mathlib.Omega.{arith}
 use mathlib.Core.Path.{_≡_, refl, sym, ap, _∙_, subst, subst⁻¹}
-use mathlib.Core.List.{List, [], _∷_, _++_, append-nil, append-assoc}
+use mathlib.Core.List.{List, [], _∷_, _++_, append-nil}
 use mathlib.Core.Bool.{Bool, true, false, cond}
-use lib.ListN.{length, getD, take, drop, replicate, length-append, length-take, length-drop, length-replicate}
-use lib.Seq.{length-take-le, take-at, take-length, drop-length}
+use lib.ListN.{length, getD, take, drop, replicate, length-append, length-replicate}
+use lib.Seq.{length-take-le, take-at, drop-length}
 use lib.Dec.{eqb, leb}
 use borrow.Author.Tests.{ltb-false, eqb-true, eqb-false, leb-true}
 use Rattle.layouts.specs.Answer.{Answer, refused, nothing, gives, refusal}
@@ -21,14 +21,15 @@ use Rattle.subframes.proofs.SubframeSound.{sound-admitted}
 use Rattle.texts.specs.Arguments.{argumentsAnswer}
 use Rattle.texts.specs.Decimal.{number}
 use Rattle.texts.proofs.Written.{put, length-put, taken as put-taken}
-use Rattle.listing.specs.Listing.{asked, refusedLine, completed, pageLines, pagesIn, totalsLine, first, tells, ends, listing}
-use Rattle.listing.specs.Pieces.{Running, Told, says, recordChecks, checks, unlessRefused, none, begun as begunOf, begin, areWhole, takes, together, run, next, fed as fedOf, feed, finish}
-use Rattle.listing.specs.PiecePromises.{state, meaning-listing, outcome}
-use Rattle.listing.specs.Histories.{taken, written, Misfit, History, begun, fed, misfit, SoFar, Few, AtTheEnd, GoesOn, Onward, ListingIsTold}
+use Rattle.listing.specs.Listing.{asked, refusedLine, completed, pageLines, pagesIn, totalsLine, first, tells, ends}
+use Rattle.listing.specs.Pieces.{Running, Told, says, recordChecks, checks, begun as begunOf, begin, areWhole, takes, together, run, next}
+use Rattle.listing.specs.Pieces.{fed as fedOf, feed, finish}
+use Rattle.listing.specs.PiecePromises.{state, outcome}
+use Rattle.listing.specs.Histories.{taken, written, Misfit, History, begun, fed, misfit, SoFar, AtTheEnd, Onward, ListingIsTold}
 use Rattle.listing.specs.declared.pieces.Listing.{Listing}
-use Rattle.listing.specs.declared.pieces.ListingStep.{ListingStep}
 use Rattle.listing.proofs.Pages.{tailOf, tail-count, tail-join, pages-in-join, lines-of, lines-append}
-use Rattle.listing.proofs.PieceSteps.{asked-legal, record-held, held-low, not-refused, not-told, feed-over, feed-done, finish-over, finish-done, begun-is}
+use Rattle.listing.proofs.PieceSteps.{asked-legal, record-held, held-low, not-refused, not-told, feed-over, feed-done, finish-over, finish-done}
+use Rattle.listing.proofs.PieceSteps.{begun-is}
 
 -- What is known of a listing that goes on, and of one that is over.
 record Kept (l : List ℕ) (s : Running) (input : List ℕ) : Type 0 where
@@ -130,7 +131,8 @@ module _ (l : List ℕ) (s : Running) (input piece : List ℕ) (k : Kept l s inp
           let page : next s piece .page ≡ put (s .page) (s .held) b = filled w n in
           let front : take (length (together s piece)) (put (s .page) (s .held) b) ≡ together s piece =
           take-at (take (s .held) (s .page) ++ b) (drop (s .held + length b) (s .page)) (length (together s piece)) refl in
-          ap (λ (x : List ℕ). take (next s piece .held) x) page ∙ tail-all (together s piece) (put (s .page) (s .held) b) (omega (arith, together-long, few)) front
+          ap (λ (x : List ℕ). take (next s piece .held) x) page
+          ∙ tail-all (together s piece) (put (s .page) (s .held) b) (omega (arith, together-long, few)) front
 
   page-next : length (next s piece .page) ≡ 30
   page-next = go taking
@@ -161,7 +163,9 @@ module _ (l : List ℕ) (s : Running) (input piece : List ℕ) (k : Kept l s inp
       ∙ ap (λ (x : List ℕ). pageLines (first l) (pagesIn input) ++ pageLines (s .replay) (pagesIn x)) (sym together-is)
       ∙ ap (λ (x : List ℕ). pageLines (first l) (pagesIn input) ++ x) (lines-of (s .replay) (pagesIn (together s piece)) pages-few)
 
-  fed-on : (a : Answer) (output out : List ℕ) → a ≡ gives l → isLegal l → output ≡ pageLines (first l) (pagesIn input) → Goes a input output piece (fedOf s piece out)
+  fed-on :
+      (a : Answer) (output out : List ℕ) → a ≡ gives l → isLegal l → output ≡ pageLines (first l) (pagesIn input)
+      → Goes a input output piece (fedOf s piece out)
   unfolding fedOf
   fed-on a output out e g h =
       runs l e g kept-on
@@ -251,7 +255,9 @@ module _ (h m d : List ℕ → List ℕ → List ℕ → List ℕ) where
   abbrev Stays : Answer → List ℕ → List ℕ → List ℕ → Told → Type 0
   Stays a input output piece t = Reached a (own (t .state)) (input ++ take (taken (t .answer)) piece) (output ++ take (written (t .answer)) (t .out))
 
-  misfit-goes : (a : Answer) (s : Running) (input output piece out : List ℕ) → Misfit (s .replay .subframes .hkroot) (s .replay .subframes .mack) (s .replay .dsms .memory)
+  misfit-goes :
+      (a : Answer) (s : Running) (input output piece out : List ℕ)
+      → Misfit (s .replay .subframes .hkroot) (s .replay .subframes .mack) (s .replay .dsms .memory)
       → Reached a (own s) input output → Stays a input output piece (feed s piece out)
   misfit-goes a s input output piece out w r = go (feeds s piece out)
     where
@@ -341,7 +347,8 @@ admits s n g e =
 
 kept-admits : (l : List ℕ) (s : Running) (input : List ℕ) → isLegal l → Kept l s input → areFew (s .replay .totals) ≡ true → 0 ≡ refusal (recordChecks s)
 kept-admits l s input e k f =
-    let g : Good (s .replay) (0 + length (pagesIn input)) = subst⁻¹ (λ (t : State). Good t (0 + length (pagesIn input))) (k .replay-is) (run-good l e (pagesIn input)) in
+    let g : Good (s .replay) (0 + length (pagesIn input)) = subst⁻¹ (λ (t : State). Good t (0 + length (pagesIn input))) (k .replay-is)
+    (run-good l e (pagesIn input)) in
     record-held s (k .goes) (sym (admits (s .replay) (0 + length (pagesIn input)) g f)) (held-low s (few l s input [] k))
 
 -- The end.
@@ -351,7 +358,8 @@ Finishes a input output t = output ++ take (written (t .answer)) (t .out) ≡ te
 finish-goes : (a : Answer) (s : Running) (input output out : List ℕ) → Reached a s input output → areFew (s .replay .totals) ≡ true → 256 ≤ length out
     → Finishes a input output (finish s out)
 finish-goes a s input output out (over o t u) f room =
-    subst (Finishes a input output) (finish-over s out room o) (ap (λ (x : List ℕ). x ++ []) (sym (t input)) ∙ ap (λ (x : List ℕ). tells a input ++ x) (sym (u input)))
+    subst (Finishes a input output) (finish-over s out room o)
+    (ap (λ (x : List ℕ). x ++ []) (sym (t input)) ∙ ap (λ (x : List ℕ). tells a input ++ x) (sym (u input)))
 finish-goes a s input output out (runs l e g k h) f room =
     let text : List ℕ = totalsLine (s .replay .totals) (s .held) in
     let last : text ≡ ends (gives l) input =
@@ -376,7 +384,8 @@ record Moves (piece : List ℕ) (t : Told) : Type 0 where
 
 fed-moves : (l : List ℕ) (s : Running) (input piece out : List ℕ) → Kept l s input → Moves piece (fedOf s piece out)
 unfolding fedOf
-fed-moves l s input piece out k = record { many = takes s piece; wrote = _; answer = refl; some = go-some (taking l s input piece k); no-more = go-few (taking l s input piece k) }
+fed-moves l s input piece out k =
+    record { many = takes s piece; wrote = _; answer = refl; some = go-some (taking l s input piece k); no-more = go-few (taking l s input piece k) }
   where
     go-some : Taking l s input piece k → 1 ≤ length piece → 1 ≤ takes s piece
     go-some (by-pages w z n m) q = let t : takes s piece ≡ 30 * min 15 (length piece / 30) = rw w in omega arith
@@ -395,7 +404,8 @@ feed-moves a s input output piece out (runs l e g k h) f room =
 
 onward : Onward
 onward arguments l h m d input output k f piece out r h′ m′ d′ out′ room e =
-    let q : Moves piece (outcome r h′ m′ d′ out′) = subst⁻¹ (Moves piece) e (feed-moves (asked arguments) (state l h m d) input output piece out (reached k) f room) in
+    let q : Moves piece (outcome r h′ m′ d′ out′) = subst⁻¹ (Moves piece) e
+    (feed-moves (asked arguments) (state l h m d) input output piece out (reached k) f room) in
     record { many = q .many; wrote = q .wrote; answer = q .answer; some = q .some; few = q .no-more }
 
 pub listing-is-told : ListingIsTold

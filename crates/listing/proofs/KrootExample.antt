@@ -1,10 +1,10 @@
 -- The listing of a recording with a DSM and a tail, computed in two halves.
 -- Assumes nothing.
 use Prim.Native.Nat.{ℕ, zero, suc, _+_}
-use mathlib.Core.Path.{_≡_, refl, sym, ap, _∙_}
+use mathlib.Core.Path.{_≡_, refl, ap, _∙_}
 use mathlib.Core.List.{List, [], _∷_, _++_}
 use mathlib.Core.Bool.{true, false}
-use lib.ListN.{length, replicate}
+use lib.ListN.{replicate}
 use Rattle.layouts.specs.Answer.{Answer, gives, refusal, answered, copied}
 use Rattle.layouts.specs.Bits.{bit, field, bytesFrom}
 use Rattle.layouts.specs.InavPage.{isCounted, osnma}
@@ -85,25 +85,29 @@ total = record { pages = 106; skipped = 1; used = 105; unused = 0; subframes = 7
 
 lines-one : pageLines (first numbers) one ≡ saidOne
 unfolding
-    numbers pageLines line bytes digits spelt refusal pagesOf replayed andThen pageStep isCounted skipped fed counted usedAnswer isUsed later osnma fedHkroot bit field
+    numbers pageLines line bytes digits spelt refusal pagesOf replayed andThen pageStep isCounted skipped fed counted usedAnswer isUsed later osnma
+    fedHkroot bit field
     small changed used offered answerAt feedPage viewPage copied begun stored counted-blocks all finished taken feedBlock krootBlocks bytesFrom
 lines-one = refl
 
 state-one : replayed (first numbers) one .state ≡ middle
 unfolding
-    numbers middle pageLines line bytes digits spelt refusal pagesOf replayed andThen pageStep isCounted skipped fed counted usedAnswer isUsed later osnma fedHkroot bit field
+    numbers middle pageLines line bytes digits spelt refusal pagesOf replayed andThen pageStep isCounted skipped fed counted usedAnswer isUsed later
+    osnma fedHkroot bit field
     small changed used offered answerAt feedPage viewPage copied begun stored counted-blocks all finished taken feedBlock krootBlocks bytesFrom
 state-one = refl
 
 lines-two : pageLines middle two ≡ saidTwo
 unfolding
-    middle pageLines line bytes digits spelt refusal pagesOf replayed andThen pageStep isCounted skipped fed counted usedAnswer isUsed later osnma fedHkroot bit field
+    middle pageLines line bytes digits spelt refusal pagesOf replayed andThen pageStep isCounted skipped fed counted usedAnswer isUsed later osnma
+    fedHkroot bit field
     small changed used offered answerAt feedPage viewPage copied begun stored counted-blocks all finished taken feedBlock krootBlocks bytesFrom
 lines-two = refl
 
 totals-two : replayed middle two .state .totals ≡ total
 unfolding
-    middle pageLines line bytes digits spelt refusal pagesOf replayed andThen pageStep isCounted skipped fed counted usedAnswer isUsed later osnma fedHkroot bit field
+    middle pageLines line bytes digits spelt refusal pagesOf replayed andThen pageStep isCounted skipped fed counted usedAnswer isUsed later osnma
+    fedHkroot bit field
     small changed used offered answerAt feedPage viewPage copied begun stored counted-blocks all finished taken feedBlock krootBlocks bytesFrom
 totals-two = refl
 

@@ -1,9 +1,9 @@
 -- Laws of pages: files that are put together, and their lines.
 -- Assumes nothing.
-use Prim.Native.Nat.{ℕ, zero, suc, _+_, _-_, _*_, _/_, _%_, _≤_, _<_}
+use Prim.Native.Nat.{ℕ, zero, suc, _+_, _*_, _%_, _≤_}
 use native.Mathlib.Nat.{add-zero, zero-add, suc-add}
 use native.Mathlib.Omega.{arith}
-use mathlib.Core.Path.{_≡_, refl, sym, ap, _∙_, subst}
+use mathlib.Core.Path.{_≡_, refl, sym, ap, _∙_}
 use mathlib.Core.List.{List, [], _∷_, _++_, append-nil, append-assoc}
 use mathlib.Core.Bool.{Bool, true, false, cond}
 use lib.ListN.{length, getD, take, drop, length-append, length-drop, take-append-drop}
@@ -13,10 +13,10 @@ use Rattle.layouts.specs.Answer.{Answer, refused, nothing, gives, refusal}
 use Rattle.layouts.specs.InavPage.{isCounted}
 use Rattle.subframes.specs.Subframe.{Page, wordOf, State as Subframes, Fed as SubframesFed, feedChecks, answerAt, used, offered, feed as feedPage}
 use Rattle.dsms.specs.Dsm.{State as Dsms}
-use Rattle.page_replay.specs.Replay.{Time, Dsm, State, Run, subframesIn, dsmsIn, passedOn, skipped, counted, fedPage, fed, pageStep, andThen, replayed, pagesOf, wholePages}
+use Rattle.page_replay.specs.Replay.{Time, Dsm, State, Run, subframesIn, dsmsIn, passedOn, skipped, counted, fedPage, fed, pageStep, andThen, replayed}
+use Rattle.page_replay.specs.Replay.{pagesOf, wholePages}
 use Rattle.page_replay.specs.Pieces.{followedBy}
 use Rattle.page_replay.proofs.PageFold.{at-most-one}
-use Rattle.page_replay.proofs.PageRefusals.{pages-many}
 use Rattle.page_replay.proofs.PagePieces.{split-anywhere}
 use Rattle.listing.specs.Listing.{subframeLines, dsmLines, completed, pageLines, pagesIn}
 
@@ -147,7 +147,9 @@ step-satellite s page = go (isCounted page)
     go false = refl
 
 -- One page, and the others.
-replayed-first : (s : State) (page : List ℕ) (pages : List (List ℕ)) → replayed s (page ∷ pages) ≡ followedBy (pageStep s page) (replayed (pageStep s page .state) pages)
+replayed-first :
+    (s : State) (page : List ℕ) (pages : List (List ℕ))
+    → replayed s (page ∷ pages) ≡ followedBy (pageStep s page) (replayed (pageStep s page .state) pages)
 unfolding replayed andThen
 replayed-first s page pages = split-anywhere s (page ∷ []) pages
 

@@ -10,7 +10,7 @@ use lib.ListN.{length, take, drop, length-append, length-drop}
 use lib.Seq.{length-take-le, take-at}
 use lib.Dec.{ltb, leb, eqb}
 use borrow.Author.Tests.{lt-ltb, le-ltb, ne-eqb, eqb-true, eqb-false}
-use Rattle.layouts.specs.Answer.{Answer, refused, nothing, gives, Check, _when_, refusal}
+use Rattle.layouts.specs.Answer.{Answer, refused, nothing, gives, _when_, refusal}
 use Rattle.layouts.specs.Gst.{svnGstChecks}
 use Rattle.layouts.specs.Lists.{put}
 use Rattle.layouts.proofs.Answers.{stopped, went-on, converse, answer-of}
@@ -25,7 +25,8 @@ use Rattle.texts.specs.Decimal.{number}
 use Rattle.texts.specs.declared.arguments.Arguments.{Arguments}
 use Rattle.texts.specs.declared.arguments.Arguments.the-variants.{Refused as NotGiven, Given}
 use Rattle.listing.specs.Listing.{refusedLine, completed, totalsLine, pagesIn}
-use Rattle.listing.specs.Pieces.{Running, Told, roomChecks, recordChecks, checks, unlessRefused, says, none, begun, begin, areWhole, takes, together, next, run, fed, feed, finish}
+use Rattle.listing.specs.Pieces.{Running, Told, recordChecks, checks, unlessRefused, says, none, begun, begin, areWhole, takes, together, next, run}
+use Rattle.listing.specs.Pieces.{fed, feed, finish}
 use Rattle.listing.specs.inner.Puts.{Puts}
 use Rattle.listing.specs.inner.Steps.{fresh, Kept, after, toldBy, tells, Ready}
 use Rattle.listing.specs.PiecePromises.{state}
@@ -81,7 +82,9 @@ called s bytes budget = go (eqb (refusal (replayChecks s budget)) 0) refl
 record-stops : (s : Running) {q : ℕ} → s .over ≡ false → q ≡ refusal (replayChecks (s .replay) 15) → (q ≡ 0 → ⊥) → q ≡ refusal (recordChecks s)
 record-stops s {q} g e ne = rw g (stopped (replayChecks (s .replay) 15) (12 when ltb 29 (s .held) ∷ []) e ne)
 
-pub record-held : (s : Running) {q : ℕ} → s .over ≡ false → refusal (replayChecks (s .replay) 15) ≡ 0 → q ≡ refusal (12 when ltb 29 (s .held) ∷ []) → q ≡ refusal (recordChecks s)
+pub record-held :
+    (s : Running) {q : ℕ} → s .over ≡ false → refusal (replayChecks (s .replay) 15) ≡ 0 → q ≡ refusal (12 when ltb 29 (s .held) ∷ [])
+    → q ≡ refusal (recordChecks s)
 record-held s {q} g e h = rw g (went-on (replayChecks (s .replay) 15) (12 when ltb 29 (s .held) ∷ []) tt refl e h)
 
 held-high : (s : Running) → 29 < s .held → 12 ≡ refusal (12 when ltb 29 (s .held) ∷ [])
@@ -114,7 +117,9 @@ not-refused s out g e = go (ltb (length out) 256) e (called (s .replay) [] 15)
 abbrev pub not-told : Running → ℕ → List ℕ → Told
 not-told s q out = record { state = s; answer = refused q; out = out }
 
-refused-by : (s : Running) (out : List ℕ) (t : Told) {q : ℕ} → (q ≡ 0 → ⊥) → q ≡ refusal (checks s out) → not-told s q out ≡ unlessRefused (refusal (checks s out)) s out t
+refused-by :
+    (s : Running) (out : List ℕ) (t : Told) {q : ℕ} → (q ≡ 0 → ⊥) → q ≡ refusal (checks s out)
+    → not-told s q out ≡ unlessRefused (refusal (checks s out)) s out t
 refused-by s out t {q} ne e = let z : not-told s q out ≡ unlessRefused q s out t = rw (ne-eqb q 0 ne) in z ∙ ap (λ (n : ℕ). unlessRefused n s out t) e
 
 told-by : (s : Running) (out : List ℕ) (t : Told) → 0 ≡ refusal (checks s out) → t ≡ unlessRefused (refusal (checks s out)) s out t
@@ -176,7 +181,8 @@ module _ (s : Running) (page : List ℕ) (g : s .over ≡ false) {o : Outcome} (
   asked-none a h = record-held s g (asked-given a) (held-low s h)
 
 -- What the page replay answers, told.
-module _ (s : Running) (piece out bytes : List ℕ) (k : Kept) (r : Ready s out) {x : Running} {o : Outcome} {t : Told} (e : o ≡ replay (s .replay) bytes 15) where
+module _ (s : Running) (piece out bytes : List ℕ) (k : Kept) (r : Ready s out) {x : Running} {o : Outcome} {t : Told}
+    (e : o ≡ replay (s .replay) bytes 15) where
   pub tells-feed :
       (o .state ≡ s .replay → x ≡ s) → x .replay .satellite ≡ s .replay .satellite
       → consumed bytes 15 ≡ pagesIn (together s piece)
@@ -234,7 +240,8 @@ module _ (s : Running) (piece : List ℕ) (w : areWhole s piece ≡ true) where
   pages-consumed = pages-taken (min 15 (length piece / 30)) piece (omega arith) ∙ ap pagesIn (sym whole-together)
 
   pub pages-kept : {t : ℕ} → t ≡ min 15 (length piece / 30)
-      → _≡_ {A = Kept} (record { page = s .page; held = 0; taken = 30 * t }) (record { page = next s piece .page; held = next s piece .held; taken = takes s piece })
+      → _≡_ {A = Kept} (record { page = s .page; held = 0; taken = 30 * t })
+      (record { page = next s piece .page; held = next s piece .held; taken = takes s piece })
   pages-kept {t} e =
       let long : length (together s piece) ≡ 30 * min 15 (length piece / 30) =
       ap length whole-together ∙ length-take-le (30 * min 15 (length piece / 30)) piece (omega arith) in
@@ -245,7 +252,8 @@ module _ (s : Running) (piece : List ℕ) (w : areWhole s piece ≡ true) where
       ∙ ap (kept (next s piece .page) (next s piece .held)) taken
 
 -- Of the page that is held.
-module _ (s : Running) (piece : List ℕ) (w : areWhole s piece ≡ false) (few : s .held ≤ 29) (long : length (s .page) ≡ 30) {t : ℕ} (e : t ≡ min (30 - s .held) (length piece)) where
+module _ (s : Running) (piece : List ℕ) (w : areWhole s piece ≡ false) (few : s .held ≤ 29) (long : length (s .page) ≡ 30) {t : ℕ}
+    (e : t ≡ min (30 - s .held) (length piece)) where
   page-takes : t ≡ takes s piece
   page-takes = e ∙ rw w
 
@@ -272,7 +280,8 @@ module _ (s : Running) (piece : List ℕ) (w : areWhole s piece ≡ false) (few 
   pub page-consumed : {r : List ℕ} → r ≡ put (s .page) (s .held) t (take t piece) → consumed (take (s .held + t) r) 15 ≡ pagesIn (together s piece)
   page-consumed f =
       let one : min 15 (length (together s piece) / 30) ≡ length (together s piece) / 30 = omega (arith, page-many) in
-      ap (λ (x : List ℕ). consumed (take (s .held + t) x) 15) f ∙ ap (λ (x : List ℕ). consumed x 15) page-together ∙ ap (λ (k : ℕ). pagesOf k (together s piece)) one
+      ap (λ (x : List ℕ). consumed (take (s .held + t) x) 15) f ∙ ap (λ (x : List ℕ). consumed x 15) page-together
+      ∙ ap (λ (k : ℕ). pagesOf k (together s piece)) one
 
   pub page-kept : {r : List ℕ} → r ≡ put (s .page) (s .held) t (take t piece)
       → _≡_ {A = Kept} (record { page = r; held = (s .held + t) % 30; taken = t })
@@ -295,7 +304,9 @@ module _ (l : Listing) (k : Kept) (done : Replayed) (out h m d : List ℕ) where
   pub tell-refused : {n : ℕ} → done .answer ≡ ReplayRefused n → not-told (state l h m d) n out ≡ tells (state l h m d) k (replayOutcome done h m d) out
   tell-refused e = ap (λ (a : ReplayAnswer). toldBy (meaning-replay a) (state l h m d) out (after (state l h m d) k (replayOutcome done h m d) out)) (sym e)
 
-  pub tell-done : {c : ℕ} → done .answer ≡ Consumed c → {t : Told} → t ≡ after (state l h m d) k (replayOutcome done h m d) out → t ≡ tells (state l h m d) k (replayOutcome done h m d) out
+  pub tell-done :
+      {c : ℕ} → done .answer ≡ Consumed c → {t : Told} → t ≡ after (state l h m d) k (replayOutcome done h m d) out
+      → t ≡ tells (state l h m d) k (replayOutcome done h m d) out
   tell-done e f = f ∙ ap (λ (a : ReplayAnswer). toldBy (meaning-replay a) (state l h m d) out (after (state l h m d) k (replayOutcome done h m d) out)) (sym e)
 
 -- the lent memory as it was
@@ -316,12 +327,16 @@ module _ (many : ℕ) (satellite week time out : List ℕ) where
   unfolding begin refusal
   begun-is h = rw (le-ltb (length out) 256 h)
 
-  pub begin-refused : {a : Arguments} {n : ℕ} {x : Running} {t : Told} → 256 ≤ length out → meaning-arguments a ≡ argumentsAnswer many satellite week time → a ≡ NotGiven n
+  pub begin-refused :
+      {a : Arguments} {n : ℕ} {x : Running} {t : Told} → 256 ≤ length out → meaning-arguments a ≡ argumentsAnswer many satellite week time
+      → a ≡ NotGiven n
       → x ≡ fresh 0 0 0 true → t ≡ says x 0 (refusedLine n) out → t ≡ begin many satellite week time out
   begin-refused {n = n} h e f g k =
-      k ∙ ap (λ (y : Running). says y 0 (refusedLine n) out) (g ∙ fresh-none true) ∙ ap (λ (b : Answer). begun b out) (ap meaning-arguments (sym f) ∙ e) ∙ begun-is h
+      k ∙ ap (λ (y : Running). says y 0 (refusedLine n) out) (g ∙ fresh-none true)
+      ∙ ap (λ (b : Answer). begun b out) (ap meaning-arguments (sym f) ∙ e) ∙ begun-is h
 
-  pub begin-given : {a : Arguments} {s w t : ℕ} {x : Running} → 256 ≤ length out → meaning-arguments a ≡ argumentsAnswer many satellite week time → a ≡ Given s w t
+  pub begin-given :
+      {a : Arguments} {s w t : ℕ} {x : Running} → 256 ≤ length out → meaning-arguments a ≡ argumentsAnswer many satellite week time → a ≡ Given s w t
       → x ≡ fresh s w t false → _≡_ {A = Told} (record { state = x; answer = gives (0 ∷ 0 ∷ []); out = out }) (begin many satellite week time out)
   begin-given {a} {s} {w} {t} {x} h e f g =
       let given : gives (s ∷ w ∷ t ∷ []) ≡ argumentsAnswer many satellite week time = ap meaning-arguments (sym f) ∙ e in
@@ -333,7 +348,8 @@ module _ (many : ℕ) (satellite week time out : List ℕ) where
       nothing-said y = refl
 
 -- What a replay of no pages answers, of the code.
-module _ (l : Listing) (h m d page : List ℕ) (done : Replayed) {x y z : List ℕ} (g : l .over ≡ false) (e : replayOutcome done x y z ≡ replay (replayState (l .replay) h m d) page 0) where
+module _ (l : Listing) (h m d page : List ℕ) (done : Replayed) {x y z : List ℕ} (g : l .over ≡ false)
+    (e : replayOutcome done x y z ≡ replay (replayState (l .replay) h m d) page 0) where
   still : (x ≡ h) × (y ≡ m) × (z ≡ d)
   still =
       let s = asked-same (state l h m d) page g e in
@@ -349,7 +365,8 @@ module _ (l : Listing) (h m d page : List ℕ) (done : Replayed) {x y z : List �
   refuses-none a k = (asked-none (state l h m d) page g e (ap meaning-replay a) k, still)
 
 -- Refused with the memory as it was.
-module _ (l : Listing) (h m d out : List ℕ) {q : ℕ} {x y z : List ℕ} (r : 256 ≤ length out) (e : q ≡ refusal (recordChecks (state l h m d))) (f : (x ≡ h) × (y ≡ m) × (z ≡ d)) where
+module _ (l : Listing) (h m d out : List ℕ) {q : ℕ} {x y z : List ℕ} (r : 256 ≤ length out) (e : q ≡ refusal (recordChecks (state l h m d)))
+    (f : (x ≡ h) × (y ≡ m) × (z ≡ d)) where
   as-it-was : state l x y z ≡ state l h m d
   as-it-was = ap (λ (t : List ℕ). state l t y z) (f .0) ∙ ap (λ (t : List ℕ). state l h t z) (f .1) ∙ ap (λ (t : List ℕ). state l h m t) (f .2)
 
@@ -363,7 +380,9 @@ module _ (l : Listing) (h m d out : List ℕ) {q : ℕ} {x y z : List ℕ} (r : 
           l-replay = replayState (l .replay) h m d
 
           go : Called l-replay [] 15 → ⊥
-          go (goes n f) = let t : 12 ≡ refusal (recordChecks (state l h m d)) = record-held (state l h m d) g n (held-high (state l h m d) k) in omega (arith, t, w)
+          go (goes n f) =
+              let t : 12 ≡ refusal (recordChecks (state l h m d)) = record-held (state l h m d) g n (held-high (state l h m d) k) in
+              omega (arith, t, w)
           go (stops n f) = n (record-stops (state l h m d) g refl n ∙ w)
 
   pub finish-stopped : (q ≡ 0 → ⊥) → not-told (state l x y z) q out ≡ finish (state l h m d) out

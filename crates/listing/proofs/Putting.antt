@@ -1,14 +1,13 @@
 -- Laws of texts that are put into the caller's room.
 -- Assumes nothing.
 use Prim.Native.Nat.{ℕ, _+_, _≤_}
-use native.Mathlib.Nat.{add-zero, zero-add}
+use native.Mathlib.Nat.{add-zero}
 use native.Mathlib.Omega.{arith}
-use mathlib.Core.Path.{_≡_, refl, sym, ap, _∙_, subst}
-use mathlib.Core.List.{List, [], _∷_, _++_, append-nil}
+use mathlib.Core.Path.{_≡_, sym, ap, _∙_, subst}
+use mathlib.Core.List.{List, [], _++_, append-nil}
 use lib.ListN.{length, take, drop, length-append, take-append-drop}
-use Rattle.layouts.specs.Answer.{Answer}
 use Rattle.layouts.specs.Lists.{put as putAt}
-use Rattle.texts.specs.Decimal.{digits, most}
+use Rattle.texts.specs.Decimal.{most}
 use Rattle.texts.specs.Lines.{bytes, line, subframeParts, dsmParts, totalsParts, refusedParts}
 use Rattle.texts.specs.Puts.{meaning-end, PutText}
 use Rattle.texts.specs.declared.put.End.{End}
@@ -56,7 +55,9 @@ totals-few a b c d e ha hb hc hd he =
     simp length-append (omega arith)
 
 -- a text that has room
-pub puts-text : (s out : List ℕ) (at : ℕ) (e : End) {after : List ℕ} {r : ℕ} → at + length s ≤ length out → PutText s out at e after → r ≡ endIn (meaning-end e) → Puts s out at after r
+pub puts-text :
+    (s out : List ℕ) (at : ℕ) (e : End) {after : List ℕ} {r : ℕ} → at + length s ≤ length out → PutText s out at e after → r ≡ endIn (meaning-end e)
+    → Puts s out at after r
 puts-text s out at e h p q =
     let f = put-fits s out at e h p in
     record { bytes = f .1; ends = q ∙ ap endIn (f .0) }
@@ -69,13 +70,16 @@ puts-none : (out : List ℕ) (at : ℕ) → Puts [] out at out at
 puts-none out at =
     record {
       bytes =
-          sym (ap (λ (l : List ℕ). l ++ drop (at + 0) out) (append-nil (take at out)) ∙ ap (λ (k : ℕ). take at out ++ drop k out) (add-zero at) ∙ take-append-drop at out);
+          sym
+          (ap (λ (l : List ℕ). l ++ drop (at + 0) out) (append-nil (take at out)) ∙ ap (λ (k : ℕ). take at out ++ drop k out) (add-zero at)
+          ∙ take-append-drop at out);
       ends = sym (add-zero at);
     }
 
 -- The S line, or none.
 pub s-line : (satellite w t : ℕ) (out : List ℕ) (e : End) {after : List ℕ} {r : ℕ} → satellite ≤ most → w ≤ most → t ≤ most → 256 ≤ length out
-    → PutText (line (subframeParts satellite w t)) out 0 e after → r ≡ endIn (meaning-end e) → Puts (line (subframeParts satellite w t)) out 0 after r × (r ≤ 96)
+    → PutText (line (subframeParts satellite w t)) out 0 e after → r ≡ endIn (meaning-end e)
+    → Puts (line (subframeParts satellite w t)) out 0 after r × (r ≤ 96)
 s-line satellite w t out e hs hw ht room p q =
     let few = subframe-few satellite w t hs hw ht in
     let k = puts-text (line (subframeParts satellite w t)) out 0 e (omega arith) p q in
@@ -84,7 +88,9 @@ s-line satellite w t out e hs hw ht room p q =
 pub no-subframe : (satellite : ℕ) (out : List ℕ) {done : SubframeDone} → done ≡ None → Puts (subframeLines satellite (meaning-subframes done)) out 0 out 0
 no-subframe satellite out {done} e = rw e (puts-none out 0)
 
-pub a-subframe : (satellite : ℕ) {w t : ℕ} (out : List ℕ) {done : SubframeDone} {after : List ℕ} {r : ℕ} → done ≡ Subframe w t → Puts (line (subframeParts satellite w t)) out 0 after r
+pub a-subframe :
+    (satellite : ℕ) {w t : ℕ} (out : List ℕ) {done : SubframeDone} {after : List ℕ} {r : ℕ} → done ≡ Subframe w t
+    → Puts (line (subframeParts satellite w t)) out 0 after r
     → Puts (subframeLines satellite (meaning-subframes done)) out 0 after r
 a-subframe satellite {w} {t} out {done} d k = rw d (puts-same (sym (append-nil (line (subframeParts satellite w t)))) k)
 
@@ -101,7 +107,9 @@ pub a-dsm : {i n : ℕ} (at : ℕ) (out : List ℕ) {done : DsmDone} {after : Li
 a-dsm {i} {n} at out {done} d k = rw d (puts-same (sym (append-nil (line (dsmParts i n)))) k)
 
 -- The other lines.
-pub a-refusal : (n : ℕ) (out : List ℕ) (e : End) {after : List ℕ} {r : ℕ} → n ≤ most → 256 ≤ length out → PutText (line (refusedParts n)) out 0 e after → r ≡ endIn (meaning-end e)
+pub a-refusal :
+    (n : ℕ) (out : List ℕ) (e : End) {after : List ℕ} {r : ℕ} → n ≤ most → 256 ≤ length out → PutText (line (refusedParts n)) out 0 e after
+    → r ≡ endIn (meaning-end e)
     → Puts (line (refusedParts n)) out 0 after r
 a-refusal n out e h room p q = let few = refused-few n h in puts-text (line (refusedParts n)) out 0 e (omega arith) p q
 
@@ -121,5 +129,7 @@ puts-both {s} {t} {out} {mid} {after} {at} p q =
     }
 
 -- The bytes of a piece go behind those that a page has.
-pub filled : (page part : List ℕ) (held many : ℕ) (e : End) {after : List ℕ} → length part ≡ many → held + many ≤ length page → PutText part page held e after → after ≡ putAt page held many part
+pub filled :
+    (page part : List ℕ) (held many : ℕ) (e : End) {after : List ℕ} → length part ≡ many → held + many ≤ length page → PutText part page held e after
+    → after ≡ putAt page held many part
 filled page part held many e l h p = put-fits part page held e (omega arith) p .1 ∙ ap (λ (k : ℕ). putAt page held k part) l

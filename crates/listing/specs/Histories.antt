@@ -37,8 +37,9 @@ writtenOf r out = take (written (meaning-listing (r .answer))) out
 abbrev pub Misfit : List ℕ → List ℕ → List ℕ → Type 0
 Misfit h m d = (length h ≡ 540) × (length m ≡ 2160) × (length d ≡ 208) → ⊥
 
--- A history of calls, from `begin` with these arguments on: the record and the memory that the last of them handed back, all that was taken of the input, and all that was written. Each call meets its promise, and is given
--- the record and the memory that the one before handed back; refused calls stand among them, those that lend other memory too: there three functions say what the listing's own is, given the lent bytes.
+-- A history of calls, from `begin` with these arguments on: the record and the memory that the last of them handed back, all that was taken of the input, and
+-- all that was written. Each call meets its promise, and is given the record and the memory that the one before handed back. Refused calls stand among them,
+-- those that lend other memory too: there three functions say what the listing's own is, given the lent bytes.
 pub data History (arguments : List (List ℕ)) : Listing → List ℕ → List ℕ → List ℕ → List ℕ → List ℕ → Type 0 where
   begun : (out : List ℕ) (r : ListingStep) (out′ : List ℕ) → 256 ≤ length out
       → BeginListing (length arguments) (getD arguments 0 []) (getD arguments 1 []) (getD arguments 2 []) out r out′

@@ -1,6 +1,6 @@
 -- The listing in pieces: what a call takes of the input, writes and keeps.
 -- Assumes nothing.
-use Prim.Native.Nat.{ℕ, _+_, _*_, _-_, _/_, _%_, min}
+use Prim.Native.Nat.{ℕ, _*_, _-_, _/_, _%_, min}
 use mathlib.Core.List.{List, [], _∷_, _++_}
 use mathlib.Core.Bool.{Bool, true, false, cond, _&&_}
 use lib.ListN.{length, getD, take, replicate}
@@ -11,7 +11,8 @@ use Rattle.layouts.specs.Lists.{put}
 use Rattle.texts.specs.Arguments.{argumentsAnswer}
 use Rattle.listing.specs.Listing.{refusedLine, completed, totalsLine, pagesIn}
 
--- The running record with the lent memory: the replay; of the 30 bytes `page` the first `held` are of a page that is not whole yet; and whether it is over, since the arguments were refused.
+-- The running record with the lent memory: the replay; of the 30 bytes `page` the first `held` are of a page that is not whole yet; and whether it is over,
+-- since the arguments were refused.
 pub record Running : Type 0 where
   pub replay : State
   pub page : List ℕ
@@ -54,7 +55,8 @@ begun (gives l) out = says (none (getD l 0 0) (getD l 1 0) (getD l 2 0) false) 0
 unfoldable pub begin : ℕ → List ℕ → List ℕ → List ℕ → List ℕ → Told
 begin many satellite week time out = unlessRefused (refusal (roomChecks out)) (none 0 0 0 false) out (begun (argumentsAnswer many satellite week time) out)
 
--- How much of a piece a call takes: where no byte is held its whole pages, fifteen at most; else, and where it has no whole page, what the held page has room for.
+-- How much of a piece a call takes: where no byte is held its whole pages, fifteen at most; else, and where it has no whole page, what the held page has room
+-- for.
 abbrev pub areWhole : Running → List ℕ → Bool
 areWhole s piece = eqb (s .held) 0 && leb 30 (length piece)
 

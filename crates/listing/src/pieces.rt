@@ -20,7 +20,8 @@ ghost use Rattle.listing.specs.Pieces.{areWhole, recordChecks};
 ghost use Rattle.listing.specs.PiecePromises.{state, outcome, BeginListing, FeedListing, FinishListing};
 ghost use Rattle.listing.specs.inner.Steps.{fresh, tells, Ready};
 
-// A listing between two calls: the page replay, and the bytes of a page that is not whole yet. Once it is over, since the arguments were refused, nothing more is written.
+// A listing between two calls: the page replay, and the bytes of a page that is not whole yet. Once it is over, since the arguments were refused, nothing more
+// is written.
 pub struct Listing {
     pub replay: PageReplay,
     pub page: [u8; 30],
@@ -53,7 +54,8 @@ fn none(satellite: u8, week: u16, time: u32, over: bool) -> Listing
     }
 }
 
-// Begins a listing from how many arguments there are and the first three, with a lent output of 256 bytes at least, else 1. Where the arguments are refused that is written, and the listing is over.
+// Begins a listing from how many arguments there are and the first three. Where the arguments are refused that is written, and the listing is over. Refuses 1
+// for a lent output of less than 256 bytes, as the others do.
 pub fn begin(many: usize, satellite: &[u8], week: &[u8], time: &[u8], out: &mut [u8]) -> ListingStep
     ensures { λ r. ⌜ BeginListing many (now (satellite .entry)) (now (week .entry)) (now (time .entry)) (now (out .entry)) r (now (out .exit)) ⌝ }
 {
@@ -121,7 +123,9 @@ fn tell(
     out: &mut [u8],
 ) -> ListingStep
     requires { ⌜ 256 ≤ length (now out) ⌝ }
-    ensures { λ r. ⌜ ((h m d : List ℕ) → outcome r h m d (now (out .exit)) ≡ tells (state listing h m d) (record { page = page; held = held; taken = taken }) (replayOutcome done h m d) (now (out .entry))) ⌝ }
+    ensures { λ r. ⌜ ((h m d : List ℕ) → outcome r h m d (now (out .exit))
+        ≡ tells (state listing h m d) (record { page = page; held = held; taken = taken })
+        (replayOutcome done h m d) (now (out .entry))) ⌝ }
 {
     let answer = done.answer;
     match answer {
@@ -166,8 +170,10 @@ fn feed_pages(
     piece: &[u8],
     out: &mut [u8],
 ) -> ListingStep
-    requires { ⌜ Ready (state listing (now hkroot) (now mack) (now dsm)) (now out) × (areWhole (state listing (now hkroot) (now mack) (now dsm)) (now piece) ≡ true) ⌝ }
-    ensures { λ r. ⌜ FeedListing listing (now (hkroot .entry)) (now (mack .entry)) (now (dsm .entry)) (now (piece .entry)) (now (out .entry)) r (now (hkroot .exit)) (now (mack .exit)) (now (dsm .exit)) (now (out .exit)) ⌝ }
+    requires { ⌜ Ready (state listing (now hkroot) (now mack) (now dsm)) (now out)
+        × (areWhole (state listing (now hkroot) (now mack) (now dsm)) (now piece) ≡ true) ⌝ }
+    ensures { λ r. ⌜ FeedListing listing (now (hkroot .entry)) (now (mack .entry)) (now (dsm .entry)) (now (piece .entry)) (now (out .entry)) r
+        (now (hkroot .exit)) (now (mack .exit)) (now (dsm .exit)) (now (out .exit)) ⌝ }
 {
     let record = listing.replay;
     let page = listing.page;
@@ -196,8 +202,10 @@ fn feed_page(
     piece: &[u8],
     out: &mut [u8],
 ) -> ListingStep
-    requires { ⌜ Ready (state listing (now hkroot) (now mack) (now dsm)) (now out) × (areWhole (state listing (now hkroot) (now mack) (now dsm)) (now piece) ≡ false) ⌝ }
-    ensures { λ r. ⌜ FeedListing listing (now (hkroot .entry)) (now (mack .entry)) (now (dsm .entry)) (now (piece .entry)) (now (out .entry)) r (now (hkroot .exit)) (now (mack .exit)) (now (dsm .exit)) (now (out .exit)) ⌝ }
+    requires { ⌜ Ready (state listing (now hkroot) (now mack) (now dsm)) (now out)
+        × (areWhole (state listing (now hkroot) (now mack) (now dsm)) (now piece) ≡ false) ⌝ }
+    ensures { λ r. ⌜ FeedListing listing (now (hkroot .entry)) (now (mack .entry)) (now (dsm .entry)) (now (piece .entry)) (now (out .entry)) r
+        (now (hkroot .exit)) (now (mack .exit)) (now (dsm .exit)) (now (out .exit)) ⌝ }
 {
     let record = listing.replay;
     let before = listing.page;
@@ -219,7 +227,7 @@ fn are_whole(held: usize, many: usize) -> bool
     30 <= many
 }
 
-// Takes some of the piece, all of it where it is short, and writes what that completes.
+// Takes some of the piece, all of it where it is short, and writes what that completes. Refuses 1 for memory of other lengths too, and 12 for the record.
 pub fn feed(
     listing: Listing,
     hkroot: &mut [u8],
@@ -228,7 +236,8 @@ pub fn feed(
     piece: &[u8],
     out: &mut [u8],
 ) -> ListingStep
-    ensures { λ r. ⌜ FeedListing listing (now (hkroot .entry)) (now (mack .entry)) (now (dsm .entry)) (now (piece .entry)) (now (out .entry)) r (now (hkroot .exit)) (now (mack .exit)) (now (dsm .exit)) (now (out .exit)) ⌝ }
+    ensures { λ r. ⌜ FeedListing listing (now (hkroot .entry)) (now (mack .entry)) (now (dsm .entry)) (now (piece .entry)) (now (out .entry)) r
+        (now (hkroot .exit)) (now (mack .exit)) (now (dsm .exit)) (now (out .exit)) ⌝ }
 {
     if out.len() < 256 {
         return ListingStep {
@@ -266,7 +275,8 @@ pub fn finish(
     dsm: &mut [u8],
     out: &mut [u8],
 ) -> ListingStep
-    ensures { λ r. ⌜ FinishListing listing (now (hkroot .entry)) (now (mack .entry)) (now (dsm .entry)) (now (out .entry)) r (now (hkroot .exit)) (now (mack .exit)) (now (dsm .exit)) (now (out .exit)) ⌝ }
+    ensures { λ r. ⌜ FinishListing listing (now (hkroot .entry)) (now (mack .entry)) (now (dsm .entry)) (now (out .entry)) r
+        (now (hkroot .exit)) (now (mack .exit)) (now (dsm .exit)) (now (out .exit)) ⌝ }
 {
     if out.len() < 256 {
         return ListingStep {

@@ -70,7 +70,8 @@ pub(crate) fn completed(
     dsm_done: DsmDone,
 ) -> usize
     requires { ⌜ 256 ≤ length (now out) ⌝ }
-    ensures { λ r. ⌜ Puts (subframeLines satellite (meaning-subframes «subframe_done») ++ dsmLines (meaning-dsms «dsm_done»)) (now (out .entry)) 0 (now (out .exit)) r ⌝ }
+    ensures { λ r. ⌜ Puts (subframeLines satellite (meaning-subframes «subframe_done») ++ dsmLines (meaning-dsms «dsm_done»))
+        (now (out .entry)) 0 (now (out .exit)) r ⌝ }
 {
     let at = subframe(out, satellite, subframe_done);
     dsm(out, at, dsm_done)

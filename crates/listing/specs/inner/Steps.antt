@@ -1,14 +1,14 @@
 -- What private functions of the listing need and do.
 -- Assumes nothing.
-use Prim.Native.Nat.{ℕ, _+_, _≤_}
+use Prim.Native.Nat.{ℕ, _≤_}
 use mathlib.Core.Path.{_≡_}
 use mathlib.Core.Bool.{Bool, false}
-use mathlib.Core.List.{List, [], _∷_, _++_}
+use mathlib.Core.List.{List, [], _++_}
 use lib.ListN.{length, replicate}
 use Rattle.layouts.specs.Answer.{Answer, refused, nothing, gives}
 use Rattle.page_replay.specs.Replay.{Outcome, begun}
 use Rattle.listing.specs.Listing.{subframeLines, dsmLines}
-use Rattle.listing.specs.Pieces.{Running, Told, says, areWhole}
+use Rattle.listing.specs.Pieces.{Running, Told, says}
 
 -- a listing of no pages, as the page replay begins
 abbrev pub fresh : ℕ → ℕ → ℕ → Bool → Running

@@ -31,17 +31,21 @@ returns-3 : tie.Need-returns-3
 returns-3 c =
     let p = c .before .before .before .before .before .before .refuses in
     let t = c .before .before .before .before .before .before .before .before .before .before in
-    let a = c .before .before .before .before .before .before .before .before .before .before .before .before .before .before .before .before .before .before .before .args in
-    feed-high (a .listing) (a .hkroot .now) (a .mack .now) (a .dsm .now) (a .out .now) (c .before .before .before .before .before .before .before .before .before .before .before .before .before .if1 .left) (p .ensures .0) (p .ensures .1) (a .piece .now) (c .before .before .before .before .before .before .before .before .before .before .before .before .if2 .left) (t .if3 .taken)
+    let e = t .before .before .before in
+    let a = e .before .before .before .before .before .before .args in
+    feed-high (a .listing) (a .hkroot .now) (a .mack .now) (a .dsm .now) (a .out .now) (e .if1 .left) (p .ensures .0) (p .ensures .1) (a .piece .now)
+    (t .before .before .if2 .left) (t .if3 .taken)
 
 are-whole-requires : tie.Need-are-whole-requires
 are-whole-requires c κs = search needs
 
 feed-pages-requires : tie.Need-feed-pages-requires
-feed-pages-requires c κs = (
-  record { room = c .before .before .before .before .before .before .before .before .before .if1 .left; few = c .before .before .before .before .before .before .if3 .left; goes = c .before .before .before .before .before .before .before .before .if2 .left },
-  sym (c .before .before .before .before .before .are-whole .ensures) ∙ c .before .before .before .before .if4 .taken,
-)
+feed-pages-requires c κs =
+    let w = c .before .before .before .before in
+    let e = w .before .before .before .before .before in (
+      record { room = e .if1 .left; few = w .before .before .if3 .left; goes = w .before .before .before .before .if2 .left },
+      sym (w .before .are-whole .ensures) ∙ w .if4 .taken,
+    )
 
 same-length-4 : tie.Need-same-length-4
 same-length-4 c = search needs
@@ -59,10 +63,12 @@ returns-4 : tie.Need-returns-4
 returns-4 c = search needs
 
 feed-page-requires : tie.Need-feed-page-requires
-feed-page-requires c κs = (
-  record { room = c .before .before .before .before .before .before .before .before .before .if1 .left; few = c .before .before .before .before .before .before .if3 .left; goes = c .before .before .before .before .before .before .before .before .if2 .left },
-  sym (c .before .before .before .before .before .are-whole .ensures) ∙ c .before .before .before .before .if4 .left,
-)
+feed-page-requires c κs =
+    let w = c .before .before .before .before in
+    let e = w .before .before .before .before .before in (
+      record { room = e .if1 .left; few = w .before .before .if3 .left; goes = w .before .before .before .before .if2 .left },
+      sym (w .before .are-whole .ensures) ∙ w .if4 .left,
+    )
 
 same-length-8 : tie.Need-same-length-8
 same-length-8 c = search needs

@@ -35,7 +35,10 @@ replay-requires : tie.Need-replay-requires
 replay-requires c κs = search needs
 
 tell-requires : tie.Need-tell-requires
-tell-requires c κs = c .before .before .before .before .before .before .before .before .before .before .before .before .before .before .before .before .before .before .before .before .before .pre .0 .room
+tell-requires c κs =
+    let p = c .before .before .before .before .before .before .before in
+    let s = p .before .before .before .before .before .before .before .before .before .before .before .before .before .before in
+    s .pre .0 .room
 
 same-length : tie.Need-same-length
 same-length c = search needs

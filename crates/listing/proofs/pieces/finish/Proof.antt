@@ -29,8 +29,9 @@ same-length-3 c = search needs
 returns-3 : tie.Need-returns-3
 returns-3 c =
     let p = c .before .before .before .before .before .before .before .refuses in
-    let a = c .before .before .before .before .before .before .before .before .before .before .before .before .before .before .before .before .before .args in
-    finish-stopped (a .listing) (a .hkroot .now) (a .mack .now) (a .dsm .now) (a .out .now) (c .before .before .before .before .before .before .before .before .before .before .before .before .if1 .left) (p .ensures .0) (p .ensures .1) (c .if3 .taken)
+    let e = c .before .before .before .before .before .before .before .before .before .before .before .before in
+    let a = e .before .before .before .before .before .args in
+    finish-stopped (a .listing) (a .hkroot .now) (a .mack .now) (a .dsm .now) (a .out .now) (e .if1 .left) (p .ensures .0) (p .ensures .1) (c .if3 .taken)
 
 totals-requires : tie.Need-totals-requires
 totals-requires c κs = search needs
@@ -49,10 +50,12 @@ same-length-7 c = search needs
 
 returns-4 : tie.Need-returns-4
 returns-4 c =
-    let p = c .before .before .before .before .before .before .before .before .before .before .before .before .refuses in
-    let a = c .before .before .before .before .before .before .before .before .before .before .before .before .before .before .before .before .before .before .before .before .before .before .args in
-    finish-told (a .listing) (a .hkroot .now) (a .mack .now) (a .dsm .now) (a .out .now) (c .before .before .before .before .before .before .before .before .before .before .before .before .before .before .before .before .before .if1 .left) (p .ensures .0) (p .ensures .1) (c .before .before .before .before .before .if3 .left) (c .before .before .before .before .before .before .before .before .before .before .before .before .before .before .before .before .if2 .left)
-    (c .before .before .totals .ensures)
+    let t = c .before .before .before .before .before in
+    let p = t .before .before .before .before .before .before .before .refuses in
+    let e = t .before .before .before .before .before .before .before .before .before .before .before in
+    let a = e .before .before .before .before .before .before .args in
+    finish-told (a .listing) (a .hkroot .now) (a .mack .now) (a .dsm .now) (a .out .now) (e .before .if1 .left) (p .ensures .0) (p .ensures .1) (t .if3 .left)
+    (e .if2 .left) (c .before .before .totals .ensures)
 
 pub finish-spec : {M : Type 1} → statement M
 finish-spec =

@@ -3,7 +3,6 @@
 use mathlib.Core.Path.{ap}
 use lib.ListN.{replicate}
 use Rattle.page_replay.specs.Replay.{Begun}
-use Rattle.listing.specs.Pieces.{Running}
 use borrow.Author.Needs.{needs}
 use Rattle.listing.proofs.pieces.none.Statement.{statement}
 use Rattle.listing.proofs.pieces.none.Tie as tie

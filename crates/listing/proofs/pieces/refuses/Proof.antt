@@ -28,10 +28,11 @@ same-length-3 c = search needs
 
 returns : tie.Need-returns
 returns c =
-    let p = c .before .before .before .before .before .before .before .before .before .before .replay in
-    let s = c .before .before .before .before .before .before .before .before .before .before .before .before .before .before .before .before .before .before .before .before in
+    let t = c .before .before .before .before .before .before .before .before .before .before in
+    let s = t .before .before .before .before .before .before .before .before .before .before in
     let a = s .args in
-    refuses-high (a .listing) (a .hkroot .now) (a .mack .now) (a .dsm .now) (a .listing .page) (p .result) (s .pre) (p .ensures) (c .before .before .enum-told .given .1) (c .if1 .taken)
+    refuses-high (a .listing) (a .hkroot .now) (a .mack .now) (a .dsm .now) (a .listing .page) (t .replay .result) (s .pre) (t .replay .ensures)
+    (c .before .before .enum-told .given .1) (c .if1 .taken)
 
 same-length-4 : tie.Need-same-length-4
 same-length-4 c = search needs
@@ -44,10 +45,11 @@ same-length-6 c = search needs
 
 returns-2 : tie.Need-returns-2
 returns-2 c =
-    let p = c .before .before .before .before .before .before .before .before .before .replay in
-    let s = c .before .before .before .before .before .before .before .before .before .before .before .before .before .before .before .before .before .before .before in
+    let t = c .before .before .before .before .before .before .before .before .before in
+    let s = t .before .before .before .before .before .before .before .before .before .before in
     let a = s .args in
-    refuses-first (a .listing) (a .hkroot .now) (a .mack .now) (a .dsm .now) (a .listing .page) (p .result) (s .pre) (p .ensures) (c .before .answer .given .1)
+    refuses-first (a .listing) (a .hkroot .now) (a .mack .now) (a .dsm .now) (a .listing .page) (t .replay .result) (s .pre) (t .replay .ensures)
+    (c .before .answer .given .1)
 
 same-length-7 : tie.Need-same-length-7
 same-length-7 c = search needs
@@ -60,10 +62,11 @@ same-length-9 c = search needs
 
 returns-3 : tie.Need-returns-3
 returns-3 c =
-    let p = c .before .before .before .before .before .before .before .before .before .before .replay in
-    let s = c .before .before .before .before .before .before .before .before .before .before .before .before .before .before .before .before .before .before .before .before in
+    let t = c .before .before .before .before .before .before .before .before .before .before in
+    let s = t .before .before .before .before .before .before .before .before .before .before in
     let a = s .args in
-    refuses-none (a .listing) (a .hkroot .now) (a .mack .now) (a .dsm .now) (a .listing .page) (p .result) (s .pre) (p .ensures) (c .before .before .enum-told .given .1) (c .if1 .left)
+    refuses-none (a .listing) (a .hkroot .now) (a .mack .now) (a .dsm .now) (a .listing .page) (t .replay .result) (s .pre) (t .replay .ensures)
+    (c .before .before .enum-told .given .1) (c .if1 .left)
 
 pub refuses-spec : {M : Type 1} → statement M
 refuses-spec =

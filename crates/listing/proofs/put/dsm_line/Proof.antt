@@ -19,8 +19,8 @@ returns : tie.Need-returns
 returns c =
     let s = c .before .before .before .before .before .before in
     let p = c .before .before .before .dsm-at in
-    d-line (s .args .id) (s .args .bytes) (s .args .at) (s .args .out .now) (p .result) (omega (arith, s .fits .id)) (omega (arith, s .fits .bytes)) (s .pre) (p .ensures)
-    (c .end-of .ensures)
+    d-line (s .args .id) (s .args .bytes) (s .args .at) (s .args .out .now) (p .result) (omega (arith, s .fits .id)) (omega (arith, s .fits .bytes)) (s .pre)
+    (p .ensures) (c .end-of .ensures)
 
 pub dsm-line-spec : {M : Type 1} → statement M
 dsm-line-spec = tie.close (tie.spec dsm-at-requires end-of-requires same-length returns)

@@ -19,8 +19,8 @@ returns : tie.Need-returns
 returns c =
     let s = c .before .before .before .before .before .before in
     let p = c .before .before .before .subframe-at in
-    s-line (s .args .satellite) (s .args .week) (s .args .time) (s .args .out .now) (p .result) (omega (arith, s .fits .satellite)) (omega (arith, s .fits .week))
-    (omega (arith, s .fits .time)) (s .pre) (p .ensures) (c .end-of .ensures)
+    s-line (s .args .satellite) (s .args .week) (s .args .time) (s .args .out .now) (p .result) (omega (arith, s .fits .satellite))
+    (omega (arith, s .fits .week)) (omega (arith, s .fits .time)) (s .pre) (p .ensures) (c .end-of .ensures)
 
 pub subframe-line-spec : {M : Type 1} → statement M
 subframe-line-spec = tie.close (tie.spec subframe-at-requires end-of-requires same-length returns)

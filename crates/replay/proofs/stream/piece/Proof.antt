@@ -1,7 +1,7 @@
 -- `stream::piece`: the piece is used up; the lent bytes stay as many.
 -- Assumes nothing.
 use mathlib.Core.Path.{_≡_, _∙_}
-use Prim.Native.Nat.{_≤_, _-_}
+use Prim.Native.Nat.{_≤_}
 use lib.ListN.{length}
 use native.Mathlib.Omega.{arith}
 use borrow.Author.Needs.{needs}
@@ -14,6 +14,13 @@ Inv-loop hkroot₀ mack₀ dsm₀ piece out₀ job₀ left₀ hkroot mack dsm ou
 
 abbrev μ-loop : tie.MeasureT-loop
 μ-loop hkroot₀ mack₀ dsm₀ piece out₀ job₀ left₀ hkroot mack dsm out job left = left
+
+-- where the turn began, and its call of the job
+abbrev begins : tie.After-struct-known2 Inv-loop μ-loop → tie.At-loop Inv-loop μ-loop
+begins c = c .before .before .before .before .before .before .before .before .before .before .before .before .before .before .before .before .before .before
+
+abbrev calls : tie.After-struct-known2 Inv-loop μ-loop → tie.After-step Inv-loop μ-loop
+calls c = c .before .before .before .before .before .before .before .before .before .before .before
 
 loop-holds : tie.Need-loop-holds Inv-loop μ-loop
 loop-holds c = search needs
@@ -56,11 +63,11 @@ loop-less c = omega arith
 
 loop-again : tie.Need-loop-again Inv-loop μ-loop
 loop-again c = (
-  omega (arith, c .before .before .before .before .before .before .before .before .before .before .before .before .before .before .before .before .before .before .loop .inv .0),
-  c .before .before .before .before .before .before .before .before .before .before .before .step .kept .1 .0 ∙ c .before .before .before .before .before .before .before .before .before .before .before .before .before .before .before .before .before .before .loop .inv .1,
-  c .before .before .before .before .before .before .before .before .before .before .before .step .kept .1 .1 .0 ∙ c .before .before .before .before .before .before .before .before .before .before .before .before .before .before .before .before .before .before .loop .inv .2,
-  c .before .before .before .before .before .before .before .before .before .before .before .step .kept .1 .1 .1 .0 ∙ c .before .before .before .before .before .before .before .before .before .before .before .before .before .before .before .before .before .before .loop .inv .3,
-  c .before .before .before .before .before .before .before .before .before .before .before .step .kept .1 .1 .1 .1 .1 .0 ∙ c .before .before .before .before .before .before .before .before .before .before .before .before .before .before .before .before .before .before .loop .inv .4,
+  omega (arith, begins c .loop .inv .0),
+  calls c .step .kept .1 .0 ∙ begins c .loop .inv .1,
+  calls c .step .kept .1 .1 .0 ∙ begins c .loop .inv .2,
+  calls c .step .kept .1 .1 .1 .0 ∙ begins c .loop .inv .3,
+  calls c .step .kept .1 .1 .1 .1 .1 .0 ∙ begins c .loop .inv .4,
 )
 
 same-length-5 : tie.Need-same-length-5 Inv-loop μ-loop
