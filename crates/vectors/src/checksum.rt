@@ -1,4 +1,4 @@
-// The Adler-32 checksum of a file. It shows a change of the bytes of a message that no replayed field reads.
+// The Adler-32 checksum of a file. It shows a change of the bytes of a message that no recorded field reads.
 use layouts::numbers;
 
 struct Sum {

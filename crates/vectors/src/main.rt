@@ -7,20 +7,20 @@ mod published;
 mod published_kroot;
 mod published_mack;
 mod published_pkr;
+mod recorded;
+mod recorded_headers;
+mod recorded_kroot;
+mod recorded_mack;
+mod recorded_pkr;
+mod recorded_table;
 mod records;
-mod replay;
-mod replay_headers;
-mod replay_kroot;
-mod replay_mack;
-mod replay_pkr;
-mod replay_table;
 mod sequence_calls;
 mod sequences;
 mod tally;
 
 fn main() {
     print::checksum(checksum::of_file(b"answers.bin"));
-    print::summary(replay::all(b"answers.bin"));
+    print::summary(recorded::all(b"answers.bin"));
     print::published_summary(published::all());
     print::sequences_checksum(checksum::of_file(b"sequences.bin"));
     print::sequences_summary(sequences::all(b"sequences.bin"));

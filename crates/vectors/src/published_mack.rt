@@ -1,7 +1,7 @@
 // A.6.5.1: two tags of satellite 2, set into a MACK message of 40-bit tags and a key of 128 bits.
 use crate::found;
 use crate::published;
-use crate::replay_mack;
+use crate::recorded_mack;
 use crate::tally::Tally;
 use layouts::mack;
 use texts::hexadecimal;
@@ -33,12 +33,12 @@ fn tag_3(msg: &[u8], t: Tally) -> Tally {
     );
     let t = published::held(
         b"A.6.5.1 PRND",
-        found::is(replay_mack::prnd(msg, 128, 40, 3), 2),
+        found::is(recorded_mack::prnd(msg, 128, 40, 3), 2),
         t,
     );
     let t = published::held(
         b"A.6.5.1 ADKD",
-        found::is(replay_mack::adkd(msg, 128, 40, 3), 4),
+        found::is(recorded_mack::adkd(msg, 128, 40, 3), 4),
         t,
     );
     published::number(b"A.6.5.1 COP", mack::tag_cop(msg, 128, 40, 3), 15, t)

@@ -1,7 +1,7 @@
 // A.7: the values of a DSM-PKR message, set into one of 13 blocks, the fewest that a key of 33 bytes fits into.
 use crate::found;
 use crate::published;
-use crate::replay_pkr;
+use crate::recorded_pkr;
 use crate::tally::Tally;
 use layouts::dsm_pkr;
 use texts::hexadecimal;
@@ -53,7 +53,11 @@ fn numbers(msg: &[u8], t: Tally) -> Tally {
         t,
     );
     let t = published::number(b"A.7 message ID", dsm_pkr::message_id(msg), 1, t);
-    let t = published::held(b"A.7 key type", found::is(replay_pkr::key_type(msg), 1), t);
+    let t = published::held(
+        b"A.7 key type",
+        found::is(recorded_pkr::key_type(msg), 1),
+        t,
+    );
     let t = published::number(b"A.7 key ID", dsm_pkr::new_public_key_id(msg), 2, t);
     published::number(b"A.7 key size", dsm_pkr::key_size(msg), 33, t)
 }

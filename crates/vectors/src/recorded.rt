@@ -2,14 +2,14 @@
 use crate::found;
 use crate::found::Found;
 use crate::print;
+use crate::recorded_headers;
+use crate::recorded_kroot;
+use crate::recorded_mack;
+use crate::recorded_pkr;
+use crate::recorded_table;
 use crate::records;
 use crate::records::Next;
 use crate::records::Record;
-use crate::replay_headers;
-use crate::replay_kroot;
-use crate::replay_mack;
-use crate::replay_pkr;
-use crate::replay_table;
 use crate::tally;
 use crate::tally::Tally;
 use layouts::bits;
@@ -27,28 +27,28 @@ fn boundary_only(r: Record) -> bool {
 fn answer(r: Record, msg: &[u8], expected: &[u8]) -> Found {
     let f = r.function;
     if f == 59 {
-        return replay_mack::key(msg, r.a, r.b, expected);
+        return recorded_mack::key(msg, r.a, r.b, expected);
     }
     if f == 71 {
-        return replay_table::flx_indices(r.a, r.b, expected);
+        return recorded_table::flx_indices(r.a, r.b, expected);
     }
     if 0 < expected.len() {
         return found::nothing();
     }
     if f < 10 {
-        return replay_headers::answer(f, r.a);
+        return recorded_headers::answer(f, r.a);
     }
     if f < 30 {
-        return replay_kroot::answer(f, msg);
+        return recorded_kroot::answer(f, msg);
     }
     if f < 50 {
-        return replay_pkr::answer(f, msg, r.a);
+        return recorded_pkr::answer(f, msg, r.a);
     }
     if f < 70 {
-        return replay_mack::answer(f, msg, r.a, r.b, r.c);
+        return recorded_mack::answer(f, msg, r.a, r.b, r.c);
     }
     if f < 80 {
-        return replay_table::answer(f, r.a, r.b, r.c);
+        return recorded_table::answer(f, r.a, r.b, r.c);
     }
     if f == 80 {
         return found::number(bits::read_bits(msg, r.a, r.b));

@@ -1,9 +1,9 @@
--- `replay::each`: the records are counted up to a million.
+-- `recorded::each`: the records are counted up to a million.
 -- Assumes nothing.
 use Prim.Native.Nat.{_≤_, _-_}
 use borrow.Author.Needs.{needs}
-use Rattle.vectors.proofs.replay.each.Statement.{statement}
-use Rattle.vectors.proofs.replay.each.Tie as tie
+use Rattle.vectors.proofs.recorded.each.Statement.{statement}
+use Rattle.vectors.proofs.recorded.each.Tie as tie
 
 abbrev Inv-loop : tie.InvT-loop
 Inv-loop fd t₀ number₀ t number = number ≤ 1000001
