@@ -1,5 +1,6 @@
 // The listing in pieces: the input comes in pieces of any sizes, and so does what is to be printed.
 use crate::put;
+use layouts::numbers::smaller;
 use page_replay::replay;
 use page_replay::replay::PageReplay;
 use page_replay::replay::ReplayAnswer;
@@ -10,7 +11,7 @@ use texts::put::words;
 ghost use mathlib.Core.Path.{_≡_};
 ghost use mathlib.Core.Bool.{true, false, _&&_};
 ghost use mathlib.Core.List.{List, []};
-ghost use Prim.Native.Nat.{ℕ, _+_, _≤_, min};
+ghost use Prim.Native.Nat.{ℕ, _+_, _≤_};
 ghost use lib.ListN.{length, take};
 ghost use lib.Dec.{leb, eqb};
 ghost use Rattle.layouts.specs.Answer.{refusal};
@@ -150,15 +151,6 @@ fn tell(
             }
         }
     }
-}
-
-fn smaller(a: usize, b: usize) -> usize
-    ensures { λ r. ⌜ r ≡ min a b ⌝ }
-{
-    if a < b {
-        return a;
-    }
-    b
 }
 
 // Whole pages of the piece, fifteen at most.
