@@ -1,11 +1,11 @@
 -- Whatever history of calls: what the code wrote is the listing of what it took.
 -- Assumes nothing.
-use Prim.Native.Nat.{ℕ, _+_, _-_, _*_, _/_, _%_, _≤_, min}
+use Prim.Native.Nat.{ℕ, zero, suc, _+_, _-_, _*_, _/_, _%_, _≤_, min}
 use native.Mathlib.Omega.{arith}
 use mathlib.Core.Path.{_≡_, refl, sym, ap, _∙_, subst, subst⁻¹}
-use mathlib.Core.List.{List, [], _∷_, _++_, append-nil}
+use mathlib.Core.List.{List, [], _∷_, _++_, append-nil, append-assoc}
 use mathlib.Core.Bool.{Bool, true, false, cond}
-use lib.ListN.{length, getD, take, drop, replicate, length-append, length-replicate}
+use lib.ListN.{length, getD, take, drop, replicate, length-append, length-take, length-drop, length-replicate, take-append-drop}
 use lib.Seq.{length-take-le, take-at, drop-length}
 use lib.Dec.{eqb, leb}
 use borrow.Author.Tests.{ltb-false, eqb-true, eqb-false, leb-true}
@@ -13,9 +13,9 @@ use Rattle.layouts.specs.Answer.{Answer, refused, nothing, gives, refusal}
 use Rattle.layouts.specs.Gst.{svnGstChecks}
 use Rattle.layouts.specs.Lists.{put as putAt}
 use Rattle.layouts.proofs.Answers.{none-fails, answer-of}
-use Rattle.page_replay.specs.Replay.{State, Run, replayed, pagesOf, wholePages, areFew, replayChecks}
+use Rattle.page_replay.specs.Replay.{State, Run, replayed, pagesOf, wholePages, most, areFew, replayChecks}
 use Rattle.page_replay.proofs.PageSteps.{start-admitted}
-use Rattle.page_replay.proofs.PageRefusals.{pages-many, legal, call-admitted}
+use Rattle.page_replay.proofs.PageRefusals.{pages-many, all-few, legal, call-admitted}
 use Rattle.page_replay.proofs.PagePieces.{split-anywhere, Good, good-onward, zeros-small}
 use Rattle.subframes.proofs.SubframeSound.{sound-admitted}
 use Rattle.texts.specs.Arguments.{argumentsAnswer}
@@ -24,12 +24,13 @@ use Rattle.texts.proofs.Written.{put, length-put, taken as put-taken}
 use Rattle.listing.specs.Listing.{asked, refusedLine, completed, pageLines, pagesIn, totalsLine, first, tells, ends}
 use Rattle.listing.specs.Pieces.{Running, Told, says, recordChecks, checks, begun as begunOf, begin, areWhole, takes, together, run, next}
 use Rattle.listing.specs.Pieces.{fed as fedOf, feed, finish}
-use Rattle.listing.specs.PiecePromises.{state, outcome}
-use Rattle.listing.specs.Histories.{taken, written, Misfit, History, begun, fed, misfit, SoFar, AtTheEnd, Onward, ListingIsTold}
+use Rattle.listing.specs.PiecePromises.{state, meaning-listing, outcome}
+use Rattle.listing.specs.Histories.{taken, written, Misfit, History, begun, fed, misfit, SoFar, AtTheEnd, Onward, Taken, AnyInput, ListingIsTold}
 use Rattle.listing.specs.declared.pieces.Listing.{Listing}
 use Rattle.listing.proofs.Pages.{tailOf, tail-count, tail-join, pages-in-join, lines-of, lines-append}
 use Rattle.listing.proofs.PieceSteps.{asked-legal, record-held, held-low, not-refused, not-told, feed-over, feed-done, finish-over, finish-done}
 use Rattle.listing.proofs.PieceSteps.{begun-is}
+use Rattle.listing.proofs.ListingUnique.{back-answer, back}
 
 -- What is known of a listing that goes on, and of one that is over.
 record Kept (l : List ℕ) (s : Running) (input : List ℕ) : Type 0 where
@@ -44,7 +45,9 @@ isLegal l = refusal (svnGstChecks (getD l 0 0) (getD l 1 0) (getD l 2 0)) ≡ 0
 
 data Reached (a : Answer) (s : Running) (input output : List ℕ) : Type 0 where
   runs : (l : List ℕ) → a ≡ gives l → isLegal l → Kept l s input → output ≡ pageLines (first l) (pagesIn input) → Reached a s input output
-  over : s .over ≡ true → ((i : List ℕ) → tells a i ≡ output) → ((i : List ℕ) → ends a i ≡ []) → Reached a s input output
+  over :
+      s .over ≡ true → areFew (s .replay .totals) ≡ true → ((i : List ℕ) → tells a i ≡ output) → ((i : List ℕ) → ends a i ≡ [])
+      → Reached a s input output
 
 -- A text at the start of the room is what is written.
 said : (out text : List ℕ) → take (length text) (put out 0 text) ≡ text
@@ -196,7 +199,7 @@ true-false p q = let z : _≡_ {A = ℕ} 0 1 = cc in omega arith
 
 over-goes : (a : Answer) (s : Running) (input more output : List ℕ) → s .over ≡ true → Reached a s input output → Reached a s (input ++ more) (output ++ [])
 over-goes a s input more output o (runs l e g k h) = absurd (true-false o (k .goes))
-over-goes a s input more output o (over p t u) = over p (λ i. t i ∙ sym (append-nil output)) u
+over-goes a s input more output o (over p n t u) = over p n (λ i. t i ∙ sym (append-nil output)) u
 
 feed-goes : (a : Answer) (s : Running) (input output piece out : List ℕ) → Reached a s input output → Goes a input output piece (feed s piece out)
 feed-goes a s input output piece out r = go (feeds s piece out) r
@@ -205,7 +208,7 @@ feed-goes a s input output piece out r = go (feeds s piece out) r
     go (refuses q f) r = subst⁻¹ (Goes a input output piece) f (same-goes a s input output r)
     go (ended o f) r = subst⁻¹ (Goes a input output piece) f (over-goes a s input (take (length piece) piece) output o r)
     go (does o z f) (runs l e g k h) = subst⁻¹ (Goes a input output piece) f (fed-on l s input piece k a output out e g h)
-    go (does o z f) (over p t u) = absurd (true-false p o)
+    go (does o z f) (over p n t u) = absurd (true-false p o)
 
 -- A call that is not refused has memory of the right lengths.
 fits-not : (s : Running) (out : List ℕ) → s .over ≡ false → refusal (checks s out) ≡ 0
@@ -267,6 +270,10 @@ module _ (h m d : List ℕ → List ℕ → List ℕ → List ℕ) where
       go (does o z f) = absurd (fits-not s out o z w)
 
 -- The beginning.
+none-yet : areFew (record { pages = 0; skipped = 0; used = 0; unused = 0; subframes = 0; dsms = 0 }) ≡ true
+unfolding areFew
+none-yet = refl
+
 abbrev zeros : Running → Running
 zeros s = lent s (replicate 540 0) (replicate 2160 0) (replicate 208 0)
 
@@ -281,8 +288,8 @@ begin-goes many x y z out room = subst (Begins a) (begun-is many x y z out room)
     a = argumentsAnswer many x y z
 
     go : (b : Answer) → a ≡ b → Begins a (begunOf b out)
-    go (refused n) e = over refl (λ i. ap (λ (c : Answer). tells c i) e ∙ sym (said out (refusedLine n))) (λ i. ap (λ (c : Answer). ends c i) e)
-    go nothing e = over refl (λ i. ap (λ (c : Answer). tells c i) e) (λ i. ap (λ (c : Answer). ends c i) e)
+    go (refused n) e = over refl none-yet (λ i. ap (λ (c : Answer). tells c i) e ∙ sym (said out (refusedLine n))) (λ i. ap (λ (c : Answer). ends c i) e)
+    go nothing e = over refl none-yet (λ i. ap (λ (c : Answer). tells c i) e) (λ i. ap (λ (c : Answer). ends c i) e)
     go (gives l) e =
         let numbers : List ℕ = number x ∷ number y ∷ number z ∷ [] in
         let same : l ≡ numbers = answer-of _ _ (sym e) in
@@ -301,7 +308,7 @@ reached {arguments} (misfit {l = l} {x = x} {y = y} {z = z} {input = input} {out
 
 so-far-told : (a : Answer) (s : Running) (input output : List ℕ) → Reached a s input output → output ≡ tells a input
 so-far-told a s input output (runs l e g k h) = h ∙ ap (λ (b : Answer). tells b input) (sym e)
-so-far-told a s input output (over o t u) = sym (t input)
+so-far-told a s input output (over o n t u) = sym (t input)
 
 so-far : SoFar
 so-far arguments l h m d input output k = so-far-told (asked arguments) (state l h m d) input output (reached k)
@@ -357,7 +364,7 @@ Finishes a input output t = output ++ take (written (t .answer)) (t .out) ≡ te
 
 finish-goes : (a : Answer) (s : Running) (input output out : List ℕ) → Reached a s input output → areFew (s .replay .totals) ≡ true → 256 ≤ length out
     → Finishes a input output (finish s out)
-finish-goes a s input output out (over o t u) f room =
+finish-goes a s input output out (over o n t u) f room =
     subst (Finishes a input output) (finish-over s out room o)
     (ap (λ (x : List ℕ). x ++ []) (sym (t input)) ∙ ap (λ (x : List ℕ). tells a input ++ x) (sym (u input)))
 finish-goes a s input output out (runs l e g k h) f room =
@@ -397,7 +404,7 @@ fed-moves l s input piece out k =
 
 feed-moves : (a : Answer) (s : Running) (input output piece out : List ℕ) → Reached a s input output → areFew (s .replay .totals) ≡ true → 256 ≤ length out
     → Moves piece (feed s piece out)
-feed-moves a s input output piece out (over o t u) f room =
+feed-moves a s input output piece out (over o n t u) f room =
     subst (Moves piece) (feed-over s piece out room o) (record { many = length piece; wrote = 0; answer = refl; some = λ q. q; no-more = omega arith })
 feed-moves a s input output piece out (runs l e g k h) f room =
     subst (Moves piece) (feed-done s piece out room (k .goes) (kept-admits l s input g k f)) (fed-moves l s input piece out k)
@@ -408,5 +415,117 @@ onward arguments l h m d input output k f piece out r h′ m′ d′ out′ room
     (feed-moves (asked arguments) (state l h m d) input output piece out (reached k) f room) in
     record { many = q .many; wrote = q .wrote; answer = q .answer; some = q .some; few = q .no-more }
 
+-- Every input has a history: what the definitions say is what some answer of the code means.
+data Shaped : Answer → Type 0 where
+  shaped-refused : {n : ℕ} → Shaped (refused n)
+  shaped-told : {k n : ℕ} → Shaped (gives (k ∷ n ∷ []))
+
+shaped-back : {a : Answer} → Shaped a → meaning-listing (back-answer a) ≡ a
+shaped-back shaped-refused = refl
+shaped-back shaped-told = refl
+
+realized :
+    (t : Told) → Shaped (t .answer)
+    → outcome (back t) (t .state .replay .subframes .hkroot) (t .state .replay .subframes .mack) (t .state .replay .dsms .memory) (t .out) ≡ t
+realized t h = ap (λ (a : Answer). told-with a) (shaped-back h)
+  where
+    told-with : Answer → Told
+    told-with a = record { state = t .state; answer = a; out = t .out }
+
+feed-shaped : (s : Running) (piece out : List ℕ) → Shaped (feed s piece out .answer)
+unfolding fedOf
+feed-shaped s piece out = go (feeds s piece out)
+  where
+    go : Feeds s piece out → Shaped (feed s piece out .answer)
+    go (refuses q f) = subst⁻¹ (λ (t : Told). Shaped (t .answer)) f shaped-refused
+    go (ended o f) = subst⁻¹ (λ (t : Told). Shaped (t .answer)) f shaped-told
+    go (does o z f) = subst⁻¹ (λ (t : Told). Shaped (t .answer)) f shaped-told
+
+-- the totals of few pages are few
+run-few : (l : List ℕ) → isLegal l → (input : List ℕ) → wholePages input ≤ most → areFew (replayed (first l) (pagesIn input) .state .totals) ≡ true
+run-few l e input h =
+    let n = pages-many (wholePages input) input in
+    let f = run-good l e (pagesIn input) .sound in
+    sym
+    (all-few (replayed (first l) (pagesIn input) .state .totals) (omega (arith, f .pages-few)) (omega (arith, f .skipped-few)) (omega (arith, f .used-few))
+    (omega (arith, f .unused-few)) (omega (arith, f .subframes-few)) (omega (arith, f .dsms-few)))
+
+reached-few : (a : Answer) (s : Running) (input output : List ℕ) → Reached a s input output → wholePages input ≤ most → areFew (s .replay .totals) ≡ true
+reached-few a s input output (runs l e g k h) w = ap (λ (t : State). areFew (t .totals)) (k .replay-is) ∙ run-few l g input w
+reached-few a s input output (over o n t u) w = n
+
+abbrev room : List ℕ
+room = replicate 256 0
+
+room-long : 256 ≤ length room
+room-long = omega (arith, length-replicate {A = ℕ} 256 0)
+
+begin-realized : (many : ℕ) (x y z out : List ℕ) → 256 ≤ length out
+    → outcome (back (begin many x y z out)) [] [] [] (begin many x y z out .out) ≡ begin many x y z out
+begin-realized many x y z out h =
+    subst (λ (t : Told). outcome (back t) [] [] [] (t .out) ≡ t) (begun-is many x y z out h) (go (argumentsAnswer many x y z))
+  where
+    go : (a : Answer) → outcome (back (begunOf a out)) [] [] [] (begunOf a out .out) ≡ begunOf a out
+    go (refused n) = refl
+    go nothing = refl
+    go (gives l) = refl
+
+shrinks : (r m n : ℕ) → r ≤ suc n → (1 ≤ r → 1 ≤ m) → r - m ≤ n
+shrinks zero m n h f = omega arith
+shrinks (suc r) m n h f = let g = f (omega arith) in omega arith
+
+-- from the beginning on, call by call
+module _ (arguments : List (List ℕ)) where
+  starts : Taken arguments []
+  starts =
+      let t : Told = begin (length arguments) (getD arguments 0 []) (getD arguments 1 []) (getD arguments 2 []) room in
+      let e = begin-realized (length arguments) (getD arguments 0 []) (getD arguments 1 []) (getD arguments 2 []) room room-long in
+      let k = begun room (back t) (t .out) room-long e in
+      record {
+        record-is = back t .listing;
+        hkroot = replicate 540 0;
+        mack = replicate 2160 0;
+        memory = replicate 208 0;
+        output = take (written (meaning-listing (back t .answer))) (t .out);
+        history = k;
+        few = reached-few (asked arguments) (state (back t .listing) (replicate 540 0) (replicate 2160 0) (replicate 208 0)) [] _ (reached k) (omega arith);
+      }
+
+  walks : (n : ℕ) (input rest : List ℕ) → length rest ≤ n → wholePages (input ++ rest) ≤ most → Taken arguments input → Taken arguments (input ++ rest)
+  walks zero input [] h w k = subst⁻¹ (Taken arguments) (append-nil input) k
+  walks zero input (c ∷ rest) h w k = absurd (omega arith)
+  walks (suc n) input rest h w k =
+      let s : Running = state (k .record-is) (k .hkroot) (k .mack) (k .memory) in
+      let t : Told = feed s rest room in
+      let e = realized t (feed-shaped s rest room) in
+      let x : List ℕ = t .state .replay .subframes .hkroot in
+      let y : List ℕ = t .state .replay .subframes .mack in
+      let z : List ℕ = t .state .replay .dsms .memory in
+      let q = fed (k .history) rest room (back t) x y z (t .out) e in
+      let g = onward arguments (k .record-is) (k .hkroot) (k .mack) (k .memory) input (k .output) (k .history) (k .few) rest room (back t) x y z
+      (t .out) room-long e in
+      let m : ℕ = taken (meaning-listing (back t .answer)) in
+      let some : m ≡ g .many = ap taken (g .answer) in
+      let least : 1 ≤ length rest → 1 ≤ m = λ u. omega (arith, g .some u) in
+      let front = length-append input (take m rest) in
+      let all = length-append input rest in
+      let first-part : length (take m rest) ≤ length rest = rw length-take (omega arith) in
+      let same : (input ++ take m rest) ++ drop m rest ≡ input ++ rest =
+      append-assoc input (take m rest) (drop m rest) ∙ ap (λ (l : List ℕ). input ++ l) (take-append-drop m rest) in
+      subst (Taken arguments) same
+      (walks n (input ++ take m rest) (drop m rest) (rw length-drop (shrinks (length rest) m n h least)) (subst⁻¹ (λ (l : List ℕ). wholePages l ≤ most) same w)
+      (record {
+        record-is = back t .listing;
+        hkroot = x;
+        mack = y;
+        memory = z;
+        output = k .output ++ take (written (meaning-listing (back t .answer))) (t .out);
+        history = q;
+        few = reached-few (asked arguments) (state (back t .listing) x y z) (input ++ take m rest) _ (reached q) (omega arith);
+      }))
+
+any-input : AnyInput
+any-input arguments input h = walks arguments (length input) [] input (omega arith) h (starts arguments)
+
 pub listing-is-told : ListingIsTold
-listing-is-told = record { so-far = so-far; at-the-end = at-the-end; onward = onward }
+listing-is-told = record { so-far = so-far; at-the-end = at-the-end; onward = onward; any-input = any-input }

@@ -13,7 +13,7 @@ use Rattle.listing.specs.declared.pieces.ListingAnswer.the-variants.{Ref
 use Rattle.listing.specs.declared.pieces.ListingStep.{ListingStep}
 
 -- `back` undoes the `meaning`
-abbrev back-answer : Answer → ListingAnswer
+abbrev pub back-answer : Answer → ListingAnswer
 back-answer (refused n) = Refused n
 back-answer nothing = Refused 0
 back-answer (gives []) = Refused 0
@@ -24,7 +24,7 @@ undo-answer : (r : ListingAnswer) → back-answer (meaning-listing r) ≡ r
 undo-answer (Refused n) = refl
 undo-answer (TookAndWrote k n) = refl
 
-abbrev back : Told → ListingStep
+abbrev pub back : Told → ListingStep
 back t =
     record {
       listing = record { replay = back-state (t .state .replay); page = t .state .page; held = t .state .held; over = t .state .over };

@@ -6,7 +6,7 @@ use mathlib.Core.Bool.{true}
 use mathlib.Core.Path.{_≡_}
 use lib.ListN.{length, getD, take, replicate}
 use Rattle.layouts.specs.Answer.{Answer, refused, nothing, gives}
-use Rattle.page_replay.specs.Replay.{areFew}
+use Rattle.page_replay.specs.Replay.{wholePages, most, areFew}
 use Rattle.listing.specs.Listing.{asked, tells, listing}
 use Rattle.listing.specs.PiecePromises.{state, meaning-listing, BeginListing, FeedListing, FinishListing}
 use Rattle.listing.specs.declared.pieces.Listing.{Listing}
@@ -52,17 +52,17 @@ pub data History (arguments : List (List ℕ)) : Listing → List ℕ → List �
       → (piece out : List ℕ) (r : ListingStep) (x′ y′ z′ out′ : List ℕ) → FeedListing l x y z piece out r x′ y′ z′ out′
       → History arguments (r .listing) (h x′ y′ z′) (m x′ y′ z′) (d x′ y′ z′) (input ++ takenOf r piece) (output ++ writtenOf r out′)
 
--- "what was written is the listing of all that was read, in order"
+-- Whatever the pieces and whatever the room, what was written is what the listing says of all that was taken, in order.
 abbrev pub SoFar : Type 0
 SoFar =
     (arguments : List (List ℕ)) (l : Listing) (h m d input output : List ℕ) → History arguments l h m d input output
     → output ≡ tells (asked arguments) input
 
--- "as long as no total passes 2^62"
+-- "Totals handed in above 2^62 are 12": as long as no total passes that
 abbrev pub Few : Listing → Type 0
 Few l = areFew (state l [] [] [] .replay .totals) ≡ true
 
--- "and at the end all of it"
+-- and with the last line it is the whole listing
 abbrev pub AtTheEnd : Type 0
 AtTheEnd =
     (arguments : List (List ℕ)) (l : Listing) (h m d input output : List ℕ) → History arguments l h m d input output → Few l
@@ -83,7 +83,21 @@ Onward =
     → (piece out : List ℕ) (r : ListingStep) (h′ m′ d′ out′ : List ℕ) → 256 ≤ length out → FeedListing l h m d piece out r h′ m′ d′ out′
     → GoesOn r piece
 
+-- No premise above is empty: whatever the arguments, every input has a history in which all of it was taken, with totals that are few.
+pub record Taken (arguments : List (List ℕ)) (input : List ℕ) : Type 0 where
+  pub record-is : Listing
+  pub hkroot : List ℕ
+  pub mack : List ℕ
+  pub memory : List ℕ
+  pub output : List ℕ
+  pub history : History arguments record-is hkroot mack memory input output
+  pub few : Few record-is
+
+abbrev pub AnyInput : Type 0
+AnyInput = (arguments : List (List ℕ)) (input : List ℕ) → wholePages input ≤ most → Taken arguments input
+
 pub record ListingIsTold : Type 0 where
   pub so-far : SoFar
   pub at-the-end : AtTheEnd
   pub onward : Onward
+  pub any-input : AnyInput

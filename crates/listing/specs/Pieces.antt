@@ -29,7 +29,7 @@ pub record Told : Type 0 where
 abbrev pub says : Running → ℕ → List ℕ → List ℕ → Told
 says s taken text out = record { state = s; answer = gives (taken ∷ length text ∷ []); out = put out 0 (length text) text }
 
--- "whatever the room from 256 bytes on (less is 1)"
+-- "a lent slice hasn't the stated length": a room of less than 256 bytes
 abbrev pub roomChecks : List ℕ → List Check
 roomChecks out = 1 when ltb (length out) 256 ∷ []
 
