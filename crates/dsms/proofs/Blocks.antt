@@ -31,7 +31,7 @@ use Rattle.layouts.proofs.Pkr as pkr
 use Rattle.dsms.specs.declared.dsm.DsmAnswer.the-variants.{Complete}
 use Rattle.dsms.specs.declared.dsm.DsmShown.{DsmShown}
 use Rattle.dsms.specs.declared.dsm.DsmShown.the-variants.{Shown, Nothing as NothingShown, Refused as NotShown}
-use Rattle.dsms.specs.DsmPromises.{state, meaning-dsm, meaning-shown, NewDsm}
+use Rattle.dsms.specs.DsmPromises.{state, meaning-dsm, meaning-shown}
 use Rattle.dsms.specs.declared.dsm.CollectDsm.{CollectDsm}
 use Rattle.dsms.specs.Dsm.{State, Fed, idOf, blockOf, feedChecks, fresh, begun, stored, krootCount, pkrCount, counted, count, allHeld}
 use Rattle.dsms.specs.Dsm.{completed, finished, taken, feed, view}
@@ -58,11 +58,6 @@ module _ (id : ℕ) (m b : List ℕ) where
 
 -- A change of ID.
 module _ (s : State) (i : ℕ) where
-  -- a new record, with that ID
-  pub fresh-new : {r : CollectDsm} → NewDsm r
-      → _≡_ {A = State} (record { id = i; came = true; held = r .held; done = r .done; memory = s .memory }) (fresh s i)
-  fresh-new e = ap (λ (t : State). record { id = i; came = true; held = t .held; done = t .done; memory = s .memory }) e
-
   pub begun-first : s .came ≡ false → fresh s i ≡ begun s i
   unfolding begun
   begun-first h = rw h

@@ -79,10 +79,13 @@ fn begin(collector: CollectDsm, id: u8) -> CollectDsm
     if collector.came && collector.id == id {
         return collector;
     }
-    let mut next = new();
-    next.id = id;
-    next.came = true;
-    next
+    let done = false;
+    CollectDsm {
+        id,
+        came: true,
+        held: [false; 16],
+        done,
+    }
 }
 
 // Block `n` goes to its place.
