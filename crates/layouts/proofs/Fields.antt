@@ -46,6 +46,12 @@ pub field-byte : (l : List ℕ) (k : ℕ) → getD l k 0 < 2 ^ 8 → field l (8 
 field-byte l k b =
     rw (add-zero, div-one, mod-eq-of-lt b) at (field-in-byte l k 0 8 (omega arith))
 
+-- the byte that starts half a byte in
+pub field-across : (l : List ℕ) (k : ℕ) → getD l (k + 1) 0 < 2 ^ 8 → field l (8 * k + 4) 8 ≡ getD l k 0 % 16 * 16 + getD l (k + 1) 0 / 16
+field-across l k b =
+    let next : 8 * k + 4 + 4 ≡ 8 * (k + 1) + 0 = omega arith in
+    rw (field-add l (8 * k + 4) 4 4, next, field-in-byte l k 4 4 (omega arith), field-in-byte l (k + 1) 0 4 (omega arith)) (omega arith)
+
 -- the byte behind the `i` whole bytes from byte `f` on
 pub field-next : (l : List ℕ) (f i : ℕ) → getD l (f + i) 0 < 2 ^ 8
     → field l (8 * f) (8 * i) * 2 ^ 8 + getD l (f + i) 0 ≡ field l (8 * f) (8 * (i + 1))

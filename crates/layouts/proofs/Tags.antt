@@ -4,11 +4,11 @@ use mathlib.Core.Path.{_≡_, refl, sym, ap, _∙_}
 use mathlib.Core.Logic.{⊎-elim, inl, inr}
 use mathlib.Core.Bool.{Bool, true, false, cond, not}
 use mathlib.Core.List.{List, [], _∷_, _++_}
-use Prim.Native.Nat.{ℕ, zero, suc, _+_, _-_, _*_, _/_, _%_, _≤_, _<_}
-use native.Mathlib.Nat.{div-mul-le-self, mul-le-mul-left, mul-le-mul-right, add-mul, one-mul, zero-mul, le-refl, le-of-suc-le-suc, not-suc-le-zero}
+use Prim.Native.Nat.{ℕ, zero, suc, _+_, _-_, _*_, _/_, _%_, _^_, _≤_, _<_}
+use native.Mathlib.Nat.{mul-assoc, div-mul-le-self, mul-le-mul-left, mul-le-mul-right, add-mul, one-mul, zero-mul, le-refl, le-of-suc-le-suc, not-suc-le-zero}
 use native.Mathlib.Omega.{arith}
-use lib.Dec.{T, leb, eqb, leb→le}
-use lib.ListN.{length, getD, take, drop, set}
+use lib.Dec.{T, leb, eqb, leb→le, eqb→eq}
+use lib.ListN.{length, getD, take, drop, set, length-set}
 use lib.Seq.{take-all}
 use types.Run.{OneOf}
 use borrow.Author.Tests.{eqb-true, eqb-false, leb-false, eq-eqb, ne-eqb, lt-ltb, le-ltb, le-leb, lt-leb, not-false}
@@ -21,6 +21,7 @@ use Rattle.layouts.specs.Meaning.{meaning-number}
 use Rattle.layouts.specs.declared.answer.Number.{Number}
 use Rattle.layouts.specs.declared.answer.Number.the-variants.{Value, Refused}
 use Rattle.layouts.proofs.Answers.{none-fails, refused-with, given-with, stopped, went-on, refused-same, given-same, answer-of}
+use Rattle.layouts.proofs.Fields.{field-byte, field-across}
 use Rattle.layouts.proofs.Readers.{first-of}
 use Rattle.layouts.proofs.Copies.{copy-more, copy-all}
 use Rattle.layouts.proofs.Tables.{both-left, both-right, every}
@@ -88,6 +89,7 @@ pub record Good (K T : ℕ) : Type 0 where
   pub key-few : K ≤ 256
   pub tag-some : 20 ≤ T
   pub tag-few : T ≤ 40
+  pub tag-half : T % 4 ≡ 0
 
 whole-of : (K : ℕ) → 96 ≤ 8 * bytesOf K → 8 * bytesOf K ≡ K
 whole-of K h = go (eqb (K % 8) 0) refl h
@@ -108,6 +110,7 @@ good-sizes K T k t =
       key-few = omega arith;
       tag-some = leb→le _ _ (of-listed (λ s. leb 20 s) T (sizesOf tagSizes) tt t);
       tag-few = leb→le _ _ (of-listed (λ s. leb s 40) T (sizesOf tagSizes) tt t);
+      tag-half = eqb→eq _ _ (of-listed (λ s. eqb (s % 4) 0) T (sizesOf tagSizes) tt t);
     }
 
 pub good : (K T : ℕ) → refusal (sizeChecks (bytesOf K) T) ≡ 0 → Good K T
@@ -287,18 +290,50 @@ byte-of m s zero i h = absurd (not-suc-le-zero h)
 byte-of m s (suc n) zero h = ap (λ (k : ℕ). field m k 8) (omega arith)
 byte-of m s (suc n) (suc i) h = byte-of m (s + 8) n i (le-of-suc-le-suc h) ∙ ap (λ (k : ℕ). field m k 8) (omega arith)
 
--- a turn of the loop that copies them
-pub key-turn : (m d now : List ℕ) (s i : ℕ) {b : ℕ} → now ≡ take i (bytesFrom m s (length d)) ++ drop i d → i < length d → b ≡ field m (s + 8 * i) 8
-    → set now i b ≡ take (i + 1) (bytesFrom m s (length d)) ++ drop (i + 1) d
-key-turn m d now s i e h eb =
-    let l : List ℕ = bytesFrom m s (length d) in
-    let here : i < length l = rw (bytes-long m s (length d)) h in
-    rw (e, eb, ← byte-of m s (length d) i h) (copy-more l d i here h)
+-- A loop that copies them into `d`, those from bit `s` on: so far `i` of them, and `d` has become `now`.
+pub record Begun (m d : List ℕ) (s i : ℕ) (now : List ℕ) : Type 0 where
+  pub few : i ≤ length d
+  pub long : length now ≡ length d
+  pub bytes : now ≡ take i (bytesFrom m s (length d)) ++ drop i d
 
-pub key-copied : (m d : List ℕ) (s : ℕ) → take (length d) (bytesFrom m s (length d)) ++ drop (length d) d ≡ bytesFrom m s (length d)
-key-copied m d s =
-    copy-all (bytesFrom m s (length d)) d (length d) (le-refl (length d))
-    ∙ take-all (length d) (bytesFrom m s (length d)) (rw (bytes-long m s (length d)) (le-refl (length d)))
+pub key-begun : (m d : List ℕ) (s : ℕ) → Begun m d s 0 d
+key-begun m d s = record { few = omega arith; long = refl; bytes = refl }
+
+module _ {m d now : List ℕ} {s i : ℕ} (e : Begun m d s i now) where
+  key-turn : {b : ℕ} → i < length d → b ≡ field m (s + 8 * i) 8 → Begun m d s (i + 1) (set now i b)
+  key-turn {b} h eb =
+      let l : List ℕ = bytesFrom m s (length d) in
+      let here : i < length l = rw (bytes-long m s (length d)) h in
+      record {
+        few = omega arith;
+        long = length-set now i b ∙ e .long;
+        bytes = rw (e .bytes, eb, ← byte-of m s (length d) i h) (copy-more l d i here h);
+      }
+
+  pub key-copied : length d ≤ i → now ≡ bytesFrom m s (length d)
+  key-copied h =
+      let end : i ≡ length d = omega (arith, e .few) in
+      e .bytes ∙ copy-all (bytesFrom m s (length d)) d i h
+      ∙ take-all i (bytesFrom m s (length d)) (rw (bytes-long m s (length d)) h)
+
+-- a turn from a whole byte on, and one from half a byte in
+pub whole-turn : (m d now : List ℕ) (f i : ℕ) → Begun m d (8 * f) i now → i < length d → getD m (f + i) 0 < 2 ^ 8
+    → Begun m d (8 * f) (i + 1) (set now i (getD m (f + i) 0))
+whole-turn m d now f i e h b =
+    let place : 8 * (f + i) ≡ 8 * f + 8 * i = omega arith in
+    key-turn e h (sym (field-byte m (f + i) b) ∙ ap (λ (n : ℕ). field m n 8) place)
+
+pub half-turn : (m d now : List ℕ) (f i : ℕ) {b : ℕ} → Begun m d (8 * f + 4) i now → i < length d → getD m (f + i + 1) 0 < 2 ^ 8
+    → b ≡ getD m (f + i) 0 % 16 * 16 + getD m (f + i + 1) 0 / 16 → Begun m d (8 * f + 4) (i + 1) (set now i b)
+half-turn m d now f i e h b eb =
+    let place : 8 * (f + i) + 4 ≡ 8 * f + 4 + 8 * i = omega arith in
+    key-turn e h (eb ∙ sym (field-across m (f + i) b) ∙ ap (λ (n : ℕ). field m n 8) place)
+
+-- the key starts with a byte or half a byte in
+pub key-half : (t T : ℕ) → T % 4 ≡ 0 → t * (T + 16) % 4 ≡ 0
+key-half t T e =
+    let fours : T + 16 ≡ (T + 16) / 4 * 4 = omega arith in
+    rw fours (omega (arith, mul-assoc t ((T + 16) / 4) 4))
 
 -- The key's answers, each from the tests that lead to it.
 module _ (m : List ℕ) (K T : ℕ) (out : List ℕ) {q : ℕ} (e : q ≡ refusal (mackChecks m (bytesOf K) T)) where

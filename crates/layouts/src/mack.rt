@@ -10,7 +10,7 @@ use crate::tag_info::Prnd;
 use crate::tag_info::PrndAnswer;
 ghost use mathlib.Core.Path.{_≡_};
 ghost use mathlib.Core.List.{[], _∷_};
-ghost use Prim.Native.Nat.{_+_, _-_, _*_, _/_, _≤_};
+ghost use Prim.Native.Nat.{_+_, _-_, _*_, _/_, _%_, _≤_, _<_};
 ghost use lib.ListN.{length};
 ghost use Rattle.layouts.specs.Answer.{refusal as refusalOf, answered, gives};
 ghost use Rattle.layouts.specs.Bits.{field, bytesFrom};
@@ -278,18 +278,47 @@ pub fn tag_cop(msg: &[u8], key_size: usize, tag_size: usize, n: usize) -> Number
     )
 }
 
-// Copies the bytes from bit `start` on into all of `out`.
-fn copy_bits(msg: &[u8], start: usize, out: &mut [u8])
-    requires { ⌜ start + 8 * length (now out) ≤ 8 * length (now msg) ⌝ }
-    ensures { λ r. ⌜ now (out .exit) ≡ bytesFrom (now (msg .entry)) start (length (now (out .entry))) ⌝ }
+// The low half of a byte, and behind it the high half of the next.
+fn across(byte: u8, next: u8) -> u8
+    ensures { λ r. ⌜ r ≡ byte % 16 * 16 + next / 16 ⌝ }
 {
-    let first = start / 8;
-    let before = start % 8;
+    byte % 16 * 16 + next / 16
+}
+
+// Copies the bytes from byte `first` on into all of `out`.
+fn copy_bytes(msg: &[u8], first: usize, out: &mut [u8])
+    requires { ⌜ first + length (now out) ≤ length (now msg) ⌝ }
+    ensures { λ r. ⌜ now (out .exit) ≡ bytesFrom (now (msg .entry)) (8 * first) (length (now (out .entry))) ⌝ }
+{
     let mut i = 0;
     while i < out.len() {
-        out[i] = bits::byte_at(msg, first + i, before);
+        out[i] = msg[first + i];
         i += 1;
     }
+}
+
+// The same from half a byte into byte `first` on.
+fn copy_half_bytes(msg: &[u8], first: usize, out: &mut [u8])
+    requires { ⌜ first + length (now out) < length (now msg) ⌝ }
+    ensures { λ r. ⌜ now (out .exit) ≡ bytesFrom (now (msg .entry)) (8 * first + 4) (length (now (out .entry))) ⌝ }
+{
+    let mut i = 0;
+    while i < out.len() {
+        out[i] = across(msg[first + i], msg[first + i + 1]);
+        i += 1;
+    }
+}
+
+// Copies the bytes from bit `start` on, where a byte or half of one starts, into all of `out`.
+fn copy_from(msg: &[u8], start: usize, out: &mut [u8])
+    requires { ⌜ (start % 4 ≡ 0) × (start + 8 * length (now out) ≤ 8 * length (now msg)) ⌝ }
+    ensures { λ r. ⌜ now (out .exit) ≡ bytesFrom (now (msg .entry)) start (length (now (out .entry))) ⌝ }
+{
+    if start % 8 == 0 {
+        copy_bytes(msg, start / 8, out);
+        return;
+    }
+    copy_half_bytes(msg, start / 8, out);
 }
 
 // Copies the key into the caller's output of key_size/8 bytes; one of another length is 1, tested last. The key may start half a byte in.
@@ -303,7 +332,7 @@ pub fn key(msg: &[u8], key_size: usize, tag_size: usize, out: &mut [u8]) -> Copy
     if out.len() != key_size / 8 {
         return Copy::Refused(1);
     }
-    copy_bits(
+    copy_from(
         msg,
         tags(key_size, tag_size) * (tag_size + TAG_INFO.width),
         out,

@@ -2,7 +2,7 @@
 -- Assumes nothing.
 use Prim.Native.Nat.{_+_, _*_, _≤_}
 use native.Mathlib.Omega.{arith}
-use Rattle.layouts.proofs.Tags.{Good, key-refused, key-sizes, key-sixty, key-fits, key-length, key-done}
+use Rattle.layouts.proofs.Tags.{Good, key-refused, key-sizes, key-sixty, key-half, key-fits, key-length, key-done}
 use borrow.Author.Needs.{needs}
 use Rattle.layouts.proofs.mack.key.Statement.{statement}
 use Rattle.layouts.proofs.mack.key.Tie as tie
@@ -36,20 +36,21 @@ returns-2 c =
 tags-requires : tie.Need-tags-requires
 tags-requires c κs = let g = sizes (c .before) in (g .key-few, g .tag-few)
 
-add-copy-bits : tie.Need-add-copy-bits
-add-copy-bits c = omega (arith, sizes (c .before .before .before) .tag-few)
+add-copy-from : tie.Need-add-copy-from
+add-copy-from c = omega (arith, sizes (c .before .before .before) .tag-few)
 
-mul-copy-bits : tie.Need-mul-copy-bits
-mul-copy-bits c = omega (arith, fits (c .before))
+mul-copy-from : tie.Need-mul-copy-from
+mul-copy-from c = omega (arith, fits (c .before))
 
-copy-bits-requires : tie.Need-copy-bits-requires
-copy-bits-requires c κs =
+copy-from-requires : tie.Need-copy-from-requires
+copy-from-requires c κs =
     let t = c .before .before in
     let e = t .before .before in
     let a = e .before .before .before .before .args in
     omega (
       arith,
       t .before .if2 .left,
+      key-half (t .tags .result) (a .tag-size) (sizes e .tag-half),
       fits t,
       key-sixty (a .msg .now) (a .key-size) (a .tag-size) (a .out .now) (e .before .refuses .ensures) (e .if1 .left),
     )
@@ -63,7 +64,7 @@ returns-3 c =
     let e = t .before .before in
     let a = e .before .before .before .before .args in
     key-done (a .msg .now) (a .key-size) (a .tag-size) (a .out .now) (e .before .refuses .ensures) (e .if1 .left) (t .before .if2 .left)
-    (t .tags .ensures) (c .before .before .copy-bits .ensures)
+    (t .tags .ensures) (c .before .before .copy-from .ensures)
 
 pub key-spec : {M : Type 1} → statement M
 key-spec =
@@ -73,8 +74,8 @@ key-spec =
     returns
     returns-2
     tags-requires
-    add-copy-bits
-    mul-copy-bits
-    copy-bits-requires
+    add-copy-from
+    mul-copy-from
+    copy-from-requires
     same-length
     returns-3)
