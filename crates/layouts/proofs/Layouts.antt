@@ -12,7 +12,7 @@ use Rattle.layouts.specs.Bits.{field, Field, row, gapless}
 use Rattle.layouts.specs.DsmPkr.{pkrLayout}
 use Rattle.layouts.specs.Sizes.{keySizes, tagSizes}
 use Rattle.layouts.specs.Mack.{sizesOf, sizeChecks, nt, mackLayout}
-use Rattle.layouts.specs.Layouts.{Covered, KrootFollows, PkrFollows, Numbered, NodesLie, TagsAtLeastFour, TagInfoIs}
+use Rattle.layouts.specs.Layouts.{Covered, KrootFollows, PkrFollows, Numbered, NodesLie, TagsAtLeastFour, KeyStarts, TagInfoIs}
 use Rattle.layouts.proofs.Answers.{none-fails}
 use Rattle.layouts.proofs.Fields.{field-add}
 use Rattle.layouts.proofs.Tables.{holds-below, every}
@@ -68,6 +68,10 @@ tags-at-least-four k T e = (
   leb→le 4 (nt k T) (of-sizes (λ k T. leb 4 (nt k T)) k T tt e),
   leb→le (nt k T) 10 (of-sizes (λ k T. leb (nt k T) 10) k T tt e),
 )
+
+pub key-starts : KeyStarts
+unfolding keySizes tagSizes nt
+key-starts = refl
 
 pub tag-info-is : TagInfoIs
 tag-info-is m T n =

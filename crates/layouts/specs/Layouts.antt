@@ -1,6 +1,6 @@
 -- What can be said of the tables as a whole.
 -- Assumes nothing.
-use Prim.Native.Nat.{ℕ, _+_, _*_, _≤_, _<_}
+use Prim.Native.Nat.{ℕ, _+_, _*_, _%_, _≤_, _<_}
 use mathlib.Core.List.{List, [], _∷_, map}
 use mathlib.Core.Path.{_≡_}
 use lib.Dec.{T}
@@ -12,7 +12,8 @@ use Rattle.layouts.specs.DsmHeader.{dsmHeader}
 use Rattle.layouts.specs.InavPage.{inavPage}
 use Rattle.layouts.specs.DsmKroot.{krootLayout, signatureChecks, krootPart, signaturePart, paddingPart}
 use Rattle.layouts.specs.DsmPkr.{pkrLayout, count, paddingChecks, newKeyPart, paddingPart as newPaddingPart}
-use Rattle.layouts.specs.Mack.{sizeChecks, nt, tagLayout, tagInfo, mackLayout}
+use Rattle.layouts.specs.Sizes.{keySizes, tagSizes}
+use Rattle.layouts.specs.Mack.{sizesOf, bytesOf, sizeChecks, nt, tagLayout, tagInfo, keyStart, mackLayout}
 
 -- each layout covers its bits, every bit once: the headers a byte, the page its 30 bytes, KROOT the 13 before its key, PKR the 130 before
 -- its, and MACK its 60, whatever sizes it has that are not refused
@@ -61,6 +62,22 @@ NodesLie =
 -- of sizes that are not refused: a MACK message has 4 to 10 tags
 abbrev pub TagsAtLeastFour : Type 0
 TagsAtLeastFour = (k T : ℕ) → refusal (sizeChecks k T) ≡ 0 → (4 ≤ nt k T) × (nt k T ≤ 10)
+
+-- "With 40-bit tags the key always starts on a byte" (request 3). The bit of a byte at which the key starts, of every listed pair of
+-- sizes: 0 is a whole byte, 4 is half a byte in. A line for each key size, 96 to 256; a column for each tag size, 20, 24, 28, 32 and 40.
+abbrev pub KeyStarts : Type 0
+KeyStarts =
+    map (λ (K : ℕ). map (λ (T : ℕ). keyStart (bytesOf K) T % 8) (sizesOf tagSizes)) (sizesOf keySizes)
+    ≡ (0 ∷ 0 ∷ 0 ∷ 0 ∷ 0 ∷ [])
+    ∷ (0 ∷ 0 ∷ 0 ∷ 0 ∷ 0 ∷ [])
+    ∷ (0 ∷ 0 ∷ 0 ∷ 0 ∷ 0 ∷ [])
+    ∷ (0 ∷ 0 ∷ 0 ∷ 0 ∷ 0 ∷ [])
+    ∷ (4 ∷ 0 ∷ 0 ∷ 0 ∷ 0 ∷ [])
+    ∷ (0 ∷ 0 ∷ 4 ∷ 0 ∷ 0 ∷ [])
+    ∷ (0 ∷ 0 ∷ 0 ∷ 0 ∷ 0 ∷ [])
+    ∷ (4 ∷ 0 ∷ 4 ∷ 0 ∷ 0 ∷ [])
+    ∷ (0 ∷ 0 ∷ 4 ∷ 0 ∷ 0 ∷ [])
+    ∷ []
 
 -- Tag-Info is PRND x 256 + ADKD x 16 + COP, in any message
 abbrev pub TagInfoIs : Type 0

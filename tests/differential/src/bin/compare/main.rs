@@ -4,10 +4,12 @@ use check::Check;
 use differential::call::{Call, Function};
 use differential::inputs::Random;
 use differential::published::silence_panics;
+use keys::Keys;
 use std::process::exit;
 
 mod check;
 mod firmware;
+mod keys;
 mod runs;
 
 /// Comparisons of one function.
@@ -21,6 +23,7 @@ struct Count {
 
 pub struct Tally {
     counts: [Count; 256],
+    keys: Keys,
     go_on: bool,
     seed: u64,
 }
@@ -42,6 +45,8 @@ impl Tally {
             if !self.go_on {
                 self.end();
             }
+        } else {
+            self.keys.count(call, &check);
         }
     }
 
@@ -65,6 +70,7 @@ impl Tally {
             all.different += count.different;
         }
         self.print("all", all);
+        self.keys.print();
         println!("seed {}", self.seed);
         println!("compared with the Rust: {} comparisons, {} differences", all.with_the_rust, all.different);
         exit(if all.different == 0 { 0 } else { 1 })
@@ -81,7 +87,7 @@ fn main() {
     let (Ok(rounds), Ok(seed)) = (rounds, seed) else { usage() };
     let rounds: u64 = rounds;
     silence_panics();
-    let mut tally = Tally { counts: [Count::default(); 256], go_on, seed };
+    let mut tally = Tally { counts: [Count::default(); 256], keys: Keys::default(), go_on, seed };
     let mut random = Random::new(seed);
     println!("seed {seed}, {rounds} random rounds");
     runs::headers(&mut tally);
@@ -95,6 +101,11 @@ fn main() {
     runs::pkr_lengths(&mut tally, &mut random);
     for _ in 0..rounds {
         runs::random_round(&mut tally, &mut random);
+    }
+    let missing = tally.keys.missing();
+    if !missing.is_empty() {
+        println!("FAILED: no key was compared of these sizes of key and tag: {missing:?}");
+        exit(1);
     }
     tally.end()
 }

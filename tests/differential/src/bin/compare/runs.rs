@@ -196,7 +196,7 @@ pub fn random_round(tally: &mut Tally, random: &mut Random) {
     tally.compare(&Call::new(Function::get_maclt_entry, &[], args));
 }
 
-fn num_tags_of(key: u64, tag: u64) -> u64 {
+pub fn num_tags_of(key: u64, tag: u64) -> u64 {
     (480 - key) / (tag + 16)
 }
 
