@@ -1,4 +1,5 @@
-//! bench PAGES: times of the port and of the published Rust for the same work, as a table.
+//! bench PAGES: times of the port and of the published Rust for the same work, as a table. Compiled for another machine than
+//! x86-64 it has the readers alone: the archive `probe` hands records over by value, as x86-64 does it.
 //! bench PAGES list: a line for each side of each work: its numbers, its units, its names.
 //! bench PAGES only WORK SIDE TIMES: does that side of that work so often, for a counter of instructions: what two numbers
 //! of times differ by is the work's own.
@@ -6,8 +7,11 @@ use std::hint::black_box;
 use std::sync::OnceLock;
 use std::sync::atomic::{AtomicUsize, Ordering};
 
+#[cfg(target_arch = "x86_64")]
 mod collectors;
+#[cfg(target_arch = "x86_64")]
 mod pages;
+#[cfg(target_arch = "x86_64")]
 #[path = "../../tests/differential/src/bin/sequences/probe.rs"]
 #[allow(dead_code, unused_imports)]
 mod probe;
@@ -88,6 +92,7 @@ impl Work<'_> {
     }
 
     /// A row for each side.
+    #[cfg(target_arch = "x86_64")]
     pub fn print(mut self) {
         if self.asked_else() {
             return;
@@ -122,11 +127,14 @@ fn main() {
     };
     let table = matches!(mode, Mode::Table);
     let _ = MODE.set(mode);
-    if table {
-        println!("| work | side | ns for each | of the Rust's time |\n|---|---|---|---|");
+    #[cfg(target_arch = "x86_64")]
+    {
+        if table {
+            println!("| work | side | ns for each | of the Rust's time |\n|---|---|---|---|");
+        }
+        pages::run(number(1).unwrap_or(2_000_000));
+        collectors::run();
     }
-    pages::run(number(1).unwrap_or(2_000_000));
-    collectors::run();
     if table {
         println!("\n| reader | Rust, ns | C boundary, ns | of the Rust's time |\n|---|---|---|---|");
     }

@@ -406,7 +406,17 @@ static void maclt(void)
     REFUSED(8, osnma_maclt_nt(WIDE(27), &a));
 }
 
-/* The lists of sizes and counts, and nt of every table ID. 0: refused. */
+/* So many digits of a hexadecimal text, from one of them on: a digit is half a byte. */
+static const char *digits(const char *text, uint64_t first, uint64_t many)
+{
+    static char part[2 * sizeof out + 1];
+    for (uint64_t i = 0; i < many; i++) part[i] = text[first + i];
+    part[many] = 0;
+    return part;
+}
+
+/* The lists of sizes and counts, the key of every pair of sizes, and nt of every table ID.
+ * 0: refused. */
 static void lists(void)
 {
     static const uint64_t kroot_blocks[16] = {[1] = 7, 8, 9, 10, 11, 12, 13, 14};
@@ -425,8 +435,10 @@ static void lists(void)
     }
     for (unsigned i = 0; i < 9; i++) {
         for (unsigned j = 5; j < 10; j++) {
-            uint64_t key = key_sizes[i], tag = tag_sizes[j];
-            GIVES((480 - key) / (tag + 16), osnma_mack_num_tags(key, tag, &a));
+            uint64_t key = key_sizes[i], tag = tag_sizes[j], tags = (480 - key) / (tag + 16);
+            GIVES(tags, osnma_mack_num_tags(key, tag, &a));
+            COPIES(digits(MACK, tags * (tag + 16) / 4, key / 4),
+                   osnma_mack_key(ALL(MACK), key, tag, out, (size_t)key / 8));
         }
     }
     for (unsigned id = 0; id < 256; id++) LISTED(nt[id], 8, osnma_maclt_nt(id, &a));
