@@ -5,7 +5,7 @@ use mathlib.Core.Logic.{⊎-elim, inl, inr}
 use mathlib.Core.Bool.{Bool, true, false, cond, not}
 use mathlib.Core.List.{List, [], _∷_, _++_}
 use Prim.Native.Nat.{ℕ, zero, suc, _+_, _-_, _*_, _/_, _%_, _^_, _≤_, _<_}
-use native.Mathlib.Nat.{mul-assoc, div-mul-le-self, mul-le-mul-left, mul-le-mul-right, add-mul, one-mul, zero-mul, le-refl, le-of-suc-le-suc, not-suc-le-zero}
+use native.Mathlib.Nat.{mul-assoc, div-mul-le-self, mul-le-mul-left, mul-le-mul-right, add-mul, one-mul, zero-mul, le-of-suc-le-suc, not-suc-le-zero}
 use native.Mathlib.Omega.{arith}
 use lib.Dec.{T, leb, eqb, leb→le, eqb→eq}
 use lib.ListN.{length, getD, take, drop, set, length-set}
@@ -312,22 +312,21 @@ module _ {m d now : List ℕ} {s i : ℕ} (e : Begun m d s i now) where
 
   pub key-copied : length d ≤ i → now ≡ bytesFrom m s (length d)
   key-copied h =
-      let end : i ≡ length d = omega (arith, e .few) in
       e .bytes ∙ copy-all (bytesFrom m s (length d)) d i h
       ∙ take-all i (bytesFrom m s (length d)) (rw (bytes-long m s (length d)) h)
 
 -- a turn from a whole byte on, and one from half a byte in
 pub whole-turn : (m d now : List ℕ) (f i : ℕ) → Begun m d (8 * f) i now → i < length d → getD m (f + i) 0 < 2 ^ 8
     → Begun m d (8 * f) (i + 1) (set now i (getD m (f + i) 0))
-whole-turn m d now f i e h b =
+whole-turn m d now f i e h small =
     let place : 8 * (f + i) ≡ 8 * f + 8 * i = omega arith in
-    key-turn e h (sym (field-byte m (f + i) b) ∙ ap (λ (n : ℕ). field m n 8) place)
+    key-turn e h (sym (field-byte m (f + i) small) ∙ ap (λ (n : ℕ). field m n 8) place)
 
 pub half-turn : (m d now : List ℕ) (f i : ℕ) {b : ℕ} → Begun m d (8 * f + 4) i now → i < length d → getD m (f + i + 1) 0 < 2 ^ 8
     → b ≡ getD m (f + i) 0 % 16 * 16 + getD m (f + i + 1) 0 / 16 → Begun m d (8 * f + 4) (i + 1) (set now i b)
-half-turn m d now f i e h b eb =
+half-turn m d now f i e h small eb =
     let place : 8 * (f + i) + 4 ≡ 8 * f + 4 + 8 * i = omega arith in
-    key-turn e h (eb ∙ sym (field-across m (f + i) b) ∙ ap (λ (n : ℕ). field m n 8) place)
+    key-turn e h (eb ∙ sym (field-across m (f + i) small) ∙ ap (λ (n : ℕ). field m n 8) place)
 
 -- the key starts with a byte or half a byte in
 pub key-half : (t T : ℕ) → T % 4 ≡ 0 → t * (T + 16) % 4 ≡ 0

@@ -63,20 +63,20 @@ NodesLie =
 abbrev pub TagsAtLeastFour : Type 0
 TagsAtLeastFour = (k T : ℕ) → refusal (sizeChecks k T) ≡ 0 → (4 ≤ nt k T) × (nt k T ≤ 10)
 
--- "With 40-bit tags the key always starts on a byte" (request 3). The bit of a byte at which the key starts, of every listed pair of
--- sizes: 0 is a whole byte, 4 is half a byte in. A line for each key size, 96 to 256; a column for each tag size, 20, 24, 28, 32 and 40.
+-- "With 40-bit tags the key always starts on a byte" (request 3). For each listed key size, which stands first in its line, and each
+-- listed tag size, 20, 24, 28, 32 and 40: the bit of a byte at which the key starts. 0 is a whole byte, 4 is half a byte in.
 abbrev pub KeyStarts : Type 0
 KeyStarts =
-    map (λ (K : ℕ). map (λ (T : ℕ). keyStart (bytesOf K) T % 8) (sizesOf tagSizes)) (sizesOf keySizes)
-    ≡ (0 ∷ 0 ∷ 0 ∷ 0 ∷ 0 ∷ [])
-    ∷ (0 ∷ 0 ∷ 0 ∷ 0 ∷ 0 ∷ [])
-    ∷ (0 ∷ 0 ∷ 0 ∷ 0 ∷ 0 ∷ [])
-    ∷ (0 ∷ 0 ∷ 0 ∷ 0 ∷ 0 ∷ [])
-    ∷ (4 ∷ 0 ∷ 0 ∷ 0 ∷ 0 ∷ [])
-    ∷ (0 ∷ 0 ∷ 4 ∷ 0 ∷ 0 ∷ [])
-    ∷ (0 ∷ 0 ∷ 0 ∷ 0 ∷ 0 ∷ [])
-    ∷ (4 ∷ 0 ∷ 4 ∷ 0 ∷ 0 ∷ [])
-    ∷ (0 ∷ 0 ∷ 4 ∷ 0 ∷ 0 ∷ [])
+    map (λ (K : ℕ). K ∷ map (λ (T : ℕ). keyStart (bytesOf K) T % 8) (sizesOf tagSizes)) (sizesOf keySizes)
+    ≡ (96 ∷ 0 ∷ 0 ∷ 0 ∷ 0 ∷ 0 ∷ [])
+    ∷ (104 ∷ 0 ∷ 0 ∷ 0 ∷ 0 ∷ 0 ∷ [])
+    ∷ (112 ∷ 0 ∷ 0 ∷ 0 ∷ 0 ∷ 0 ∷ [])
+    ∷ (120 ∷ 0 ∷ 0 ∷ 0 ∷ 0 ∷ 0 ∷ [])
+    ∷ (128 ∷ 4 ∷ 0 ∷ 0 ∷ 0 ∷ 0 ∷ [])
+    ∷ (160 ∷ 0 ∷ 0 ∷ 4 ∷ 0 ∷ 0 ∷ [])
+    ∷ (192 ∷ 0 ∷ 0 ∷ 0 ∷ 0 ∷ 0 ∷ [])
+    ∷ (224 ∷ 4 ∷ 0 ∷ 4 ∷ 0 ∷ 0 ∷ [])
+    ∷ (256 ∷ 0 ∷ 0 ∷ 4 ∷ 0 ∷ 0 ∷ [])
     ∷ []
 
 -- Tag-Info is PRND x 256 + ADKD x 16 + COP, in any message

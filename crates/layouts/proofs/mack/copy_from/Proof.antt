@@ -1,4 +1,4 @@
--- `mack::copy_from`: by the half byte that starts there.
+-- `mack::copy_from`: what is copied from starts at the key's first bit, on a byte or half a byte in.
 -- Assumes nothing.
 use mathlib.Core.Path.{_≡_, ap, _∙_}
 use Prim.Native.Nat.{ℕ, _+_, _*_, _/_}
