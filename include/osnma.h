@@ -1,4 +1,25 @@
-/* osnma.h: readers of Galileo OSNMA messages, for C11 and C++.
+/* osnma.h, version 2: readers of Galileo OSNMA messages, for C11 and C++.
+ *
+ * Changed since version 1: the size of a TESLA key is in BYTES, wherever it goes in or comes out:
+ * 12, 13, 14, 15, 16, 20, 24, 28 or 32.
+ * - A size in bits is always refused, with 7 unless the message's length is refused before: no
+ *   number is a size in bits and one in bytes.
+ * - osnma_kroot_key_size, which gave bits, is gone. osnma_kroot_key_size_bytes is there instead, so
+ *   that firmware that still thinks in bits does not link.
+ * - Firmware that still divides it by 8 gets 1 to 4, which is refused with 7 too. Hand it on as it
+ *   is.
+ * - Tag sizes stay in bits, since 20 and 28 are no whole bytes. But 20, 24, 28 and 32 now are sizes
+ *   of a key and of a tag: key and tag size EXCHANGED are not always refused any more. 12 pairs
+ *   pass, any two different ones of these four, and what is then read means nothing. The key's size
+ *   comes first in every function, and the names of the parameters say the unit.
+ */
+#ifndef OSNMA_H
+#define OSNMA_H
+
+/* Raised where firmware written for the version before has to be changed. Version 1 had none. */
+#define OSNMA_VERSION 2
+
+/* How it works
  *
  * The functions take fields out of messages that the receiver has put together: the NMA header, the
  * DSM header, DSM-KROOT, DSM-PKR and MACK messages; and they look up the MAC look-up table. No
@@ -32,13 +53,11 @@
  *   follows them, which may be written. Such a pointer may be NULL only if its length is 0.
  * - Each pointer to uint64_t points to one that may be written. It is never NULL.
  * - The memory for results overlaps neither the message nor other results of the same call.
+ * - Key and tag size are those of the chain that the message is of, and are not exchanged.
  * - Nobody else writes to the message, or touches the memory for results, during the call.
  *
  * The functions are in libfirmware.a, for x86-64 with the System V calling convention.
  */
-#ifndef OSNMA_H
-#define OSNMA_H
-
 #include <stddef.h>
 #include <stdint.h>
 
@@ -192,14 +211,14 @@ uint32_t osnma_kroot_hash_function(const uint8_t *msg, size_t len, uint64_t *val
 /* MF, bits 14..15: 0..3, enum osnma_mf; 2 and 3 are reserved. Refuses: 5 len below 2. */
 uint32_t osnma_kroot_mac_function(const uint8_t *msg, size_t len, uint64_t *value);
 
-/* KS, bits 16..19, as the size of a TESLA key in bits:
- * 0..8 stand for 96, 104, 112, 120, 128, 160, 192, 224, 256.
+/* KS, bits 16..19, as the size of a TESLA key in BYTES:
+ * 0..8 stand for 12, 13, 14, 15, 16, 20, 24, 28, 32.
  * Refuses: 5 len below 3; 6 KS above 8. */
-uint32_t osnma_kroot_key_size(const uint8_t *msg, size_t len, uint64_t *value);
+uint32_t osnma_kroot_key_size_bytes(const uint8_t *msg, size_t len, uint64_t *key_size_bytes);
 
-/* TS, bits 20..23, as the size of a tag in bits: 5..9 stand for 20, 24, 28, 32, 40.
+/* TS, bits 20..23, as the size of a tag in BITS: 5..9 stand for 20, 24, 28, 32, 40.
  * Refuses: 5 len below 3; 6 TS not 5..9. */
-uint32_t osnma_kroot_tag_size(const uint8_t *msg, size_t len, uint64_t *value);
+uint32_t osnma_kroot_tag_size(const uint8_t *msg, size_t len, uint64_t *tag_size_bits);
 
 /* MACLT, the ID of the MAC look-up table, bits 24..31: 0..255, known or not.
  * Refuses: 5 len below 4. */
@@ -215,13 +234,13 @@ uint32_t osnma_kroot_towh(const uint8_t *msg, size_t len, uint64_t *value);
 /* alpha, the random pattern, bits 56..103: a number of 48 bits. Refuses: 5 len below 13. */
 uint32_t osnma_kroot_alpha(const uint8_t *msg, size_t len, uint64_t *value);
 
-/* KROOT, the root key: first is 13, many its bytes k, the size that KS stands for divided by 8.
+/* KROOT, the root key: first is 13, many its bytes k, the size that KS stands for.
  * Refuses: 5 len below 3; 6 KS above 8; 5 len below 13 + k. */
 uint32_t osnma_kroot_kroot(const uint8_t *msg, size_t len, uint64_t *first, uint64_t *many);
 
 /* DS, the digital signature: first is 13 + k, many is 64 (P-256) or 132 (P-521). Which one is told
  * by len: it is 13 plus k + 64 rounded up to a multiple of 13, or the same with 132 for 64.
- * With a key of 128 bits (k = 16) that is 104 or 169.
+ * With a key of 16 bytes that is 104 or 169.
  * Refuses: 5 len below 3; 6 KS above 8; 5 len below 13 + k; 11 len is neither of the two. */
 uint32_t osnma_kroot_digital_signature(const uint8_t *msg, size_t len, uint64_t *first,
                                        uint64_t *many);
@@ -257,10 +276,10 @@ uint32_t osnma_pkr_new_public_key_type(const uint8_t *msg, size_t len, uint64_t 
 /* NPKID, the ID of the new public key, bits 1036..1039: 0..15. Refuses: 5 len below 130. */
 uint32_t osnma_pkr_new_public_key_id(const uint8_t *msg, size_t len, uint64_t *value);
 
-/* The size of NPK in BYTES (osnma_kroot_key_size: bits), by NPKT: 1 is 33, 3 is 67, 4 is
- * 13 x blocks - 130, that is 39, 52, 65 or 78. The bytes of the key need not be in the message.
+/* The size of NPK in BYTES, by NPKT: 1 is 33, 3 is 67, 4 is 13 x blocks - 130, that is 39, 52, 65
+ * or 78. The bytes of the key need not be in the message.
  * Refuses: 5 len below 130; 6 NPKT not 1, 3 or 4; 6 NPKT 4 and NB_DP not 7..10. */
-uint32_t osnma_pkr_key_size(const uint8_t *msg, size_t len, uint64_t *value);
+uint32_t osnma_pkr_key_size(const uint8_t *msg, size_t len, uint64_t *key_size_bytes);
 
 /* NPK, the new public key: first is 130, many is osnma_pkr_key_size. It is given also where it ends
  * after 13 x blocks: only the padding refuses that.
@@ -281,61 +300,61 @@ uint32_t osnma_pkr_merkle_tree_leaf(const uint8_t *msg, size_t len, uint64_t *fi
 
 /* --- MACK ------------------------------------------------------------------------------------- */
 
-/* msg has 60 bytes. key_size K and tag_size T are in bits, as osnma_kroot_key_size and
- * osnma_kroot_tag_size give them for the chain: K is 96, 104, 112, 120, 128, 160, 192, 224 or 256,
- * T is 20, 24, 28, 32 or 40. nt is the number of tags, numbered 0 to nt - 1. Tag n starts at bit
- * n x (T + 16): its T bits, and then 16 bits, which are MACSEQ and COP behind tag 0, and PRND, ADKD
- * and COP behind the others. The TESLA key follows the last tag. */
+/* msg has 60 bytes. k is key_size_bytes, in BYTES as osnma_kroot_key_size_bytes gives it for the
+ * chain: 12, 13, 14, 15, 16, 20, 24, 28 or 32. T is tag_size_bits, in BITS as osnma_kroot_tag_size
+ * gives it: 20, 24, 28, 32 or 40. nt is the number of tags, numbered 0 to nt - 1. Tag n starts at
+ * bit n x (T + 16): its T bits, and then 16 bits, which are MACSEQ and COP behind tag 0, and PRND,
+ * ADKD and COP behind the others. The TESLA key follows the last tag. */
 
-/* nt = (480 - K) / (T + 16), rounded down: 4..10.
- * Refuses: 7 K or T not in its list. */
-uint32_t osnma_mack_num_tags(uint64_t key_size, uint64_t tag_size, uint64_t *value);
+/* nt = (480 - 8 x k) / (T + 16), rounded down: 4..10.
+ * Refuses: 7 k or T not in its list. */
+uint32_t osnma_mack_num_tags(uint64_t key_size_bytes, uint64_t tag_size_bits, uint64_t *value);
 
 /* Tag 0: a number of T bits.
- * Refuses: 1 len not 60; 7 K or T not in its list. */
-uint32_t osnma_mack_tag0(const uint8_t *msg, size_t len, uint64_t key_size, uint64_t tag_size,
-                         uint64_t *value);
+ * Refuses: 1 len not 60; 7 k or T not in its list. */
+uint32_t osnma_mack_tag0(const uint8_t *msg, size_t len, uint64_t key_size_bytes,
+                         uint64_t tag_size_bits, uint64_t *value);
 
 /* MACSEQ, 12 bits behind tag 0: 0..4095.
- * Refuses: 1 len not 60; 7 K or T not in its list. */
-uint32_t osnma_mack_macseq(const uint8_t *msg, size_t len, uint64_t key_size, uint64_t tag_size,
-                           uint64_t *value);
+ * Refuses: 1 len not 60; 7 k or T not in its list. */
+uint32_t osnma_mack_macseq(const uint8_t *msg, size_t len, uint64_t key_size_bytes,
+                           uint64_t tag_size_bits, uint64_t *value);
 
 /* COP of tag 0, 4 bits behind MACSEQ: 0..15.
- * Refuses: 1 len not 60; 7 K or T not in its list. */
-uint32_t osnma_mack_cop(const uint8_t *msg, size_t len, uint64_t key_size, uint64_t tag_size,
-                        uint64_t *value);
+ * Refuses: 1 len not 60; 7 k or T not in its list. */
+uint32_t osnma_mack_cop(const uint8_t *msg, size_t len, uint64_t key_size_bytes,
+                        uint64_t tag_size_bits, uint64_t *value);
 
 /* Tag number tag, 1 to nt - 1: a number of T bits. (For tag 0: osnma_mack_tag0.)
- * Refuses: 1 len not 60; 7 K or T not in its list; 7 tag not 1 to nt - 1. */
-uint32_t osnma_mack_tag(const uint8_t *msg, size_t len, uint64_t key_size, uint64_t tag_size,
-                        uint64_t tag, uint64_t *value);
+ * Refuses: 1 len not 60; 7 k or T not in its list; 7 tag not 1 to nt - 1. */
+uint32_t osnma_mack_tag(const uint8_t *msg, size_t len, uint64_t key_size_bytes,
+                        uint64_t tag_size_bits, uint64_t tag, uint64_t *value);
 
 /* Tag-Info, the 16 bits behind tag 1 to nt - 1: PRND x 256 + ADKD x 16 + COP.
- * Refuses: 1 len not 60; 7 K or T not in its list; 7 tag not 1 to nt - 1. */
-uint32_t osnma_mack_tag_info(const uint8_t *msg, size_t len, uint64_t key_size, uint64_t tag_size,
-                             uint64_t tag, uint64_t *value);
+ * Refuses: 1 len not 60; 7 k or T not in its list; 7 tag not 1 to nt - 1. */
+uint32_t osnma_mack_tag_info(const uint8_t *msg, size_t len, uint64_t key_size_bytes,
+                             uint64_t tag_size_bits, uint64_t tag, uint64_t *value);
 
 /* PRND, bits 0..7 of Tag-Info: 0..255, 1..36 a satellite, 255 the constellation, others reserved.
- * Refuses: 1 len not 60; 7 K or T not in its list; 7 tag not 1 to nt - 1. */
-uint32_t osnma_mack_prnd(const uint8_t *msg, size_t len, uint64_t key_size, uint64_t tag_size,
-                         uint64_t tag, uint64_t *value);
+ * Refuses: 1 len not 60; 7 k or T not in its list; 7 tag not 1 to nt - 1. */
+uint32_t osnma_mack_prnd(const uint8_t *msg, size_t len, uint64_t key_size_bytes,
+                         uint64_t tag_size_bits, uint64_t tag, uint64_t *value);
 
 /* ADKD, bits 8..11 of Tag-Info: 0..15, enum osnma_adkd, reserved numbers as they stand.
- * Refuses: 1 len not 60; 7 K or T not in its list; 7 tag not 1 to nt - 1. */
-uint32_t osnma_mack_adkd(const uint8_t *msg, size_t len, uint64_t key_size, uint64_t tag_size,
-                         uint64_t tag, uint64_t *value);
+ * Refuses: 1 len not 60; 7 k or T not in its list; 7 tag not 1 to nt - 1. */
+uint32_t osnma_mack_adkd(const uint8_t *msg, size_t len, uint64_t key_size_bytes,
+                         uint64_t tag_size_bits, uint64_t tag, uint64_t *value);
 
 /* COP, bits 12..15 of Tag-Info: 0..15.
- * Refuses: 1 len not 60; 7 K or T not in its list; 7 tag not 1 to nt - 1. */
-uint32_t osnma_mack_tag_cop(const uint8_t *msg, size_t len, uint64_t key_size, uint64_t tag_size,
-                            uint64_t tag, uint64_t *value);
+ * Refuses: 1 len not 60; 7 k or T not in its list; 7 tag not 1 to nt - 1. */
+uint32_t osnma_mack_tag_cop(const uint8_t *msg, size_t len, uint64_t key_size_bytes,
+                            uint64_t tag_size_bits, uint64_t tag, uint64_t *value);
 
-/* The TESLA key, K / 8 bytes, copied to out: it starts at bit nt x (T + 16), which may be half a
- * byte in. out_len is exactly K / 8.
- * Refuses: 1 len not 60; 7 K or T not in its list; 1 out_len not K / 8. */
-uint32_t osnma_mack_key(const uint8_t *msg, size_t len, uint64_t key_size, uint64_t tag_size,
-                        uint8_t *out, size_t out_len);
+/* The TESLA key, k bytes, copied to out: it starts at bit nt x (T + 16), which may be half a byte
+ * in. out_len is exactly k.
+ * Refuses: 1 len not 60; 7 k or T not in its list; 1 out_len not k. */
+uint32_t osnma_mack_key(const uint8_t *msg, size_t len, uint64_t key_size_bytes,
+                        uint64_t tag_size_bits, uint8_t *out, size_t out_len);
 
 /* --- MAC look-up table ------------------------------------------------------------------------ */
 

@@ -9,6 +9,13 @@ use std::hint::black_box;
 const MESSAGES: usize = 64;
 const ROUNDS: usize = 2000;
 
+const KEY_SIZE_BYTES: u64 = 16;
+
+/// A key's size as the Rust counts it, for comparison with it.
+fn bits_of(key_size_bytes: u64) -> u64 {
+    8 * key_size_bytes
+}
+
 unsafe extern "C" {
     safe fn osnma_nma_status(header: u64, value: &mut u64) -> u32;
     safe fn osnma_chain_id(header: u64, value: &mut u64) -> u32;
@@ -18,7 +25,14 @@ unsafe extern "C" {
     safe fn osnma_dsm_type(header: u64, value: &mut u64) -> u32;
     safe fn osnma_get_maclt_entry(id: u64, message: u64, tag: u64, f: &mut u64, a: &mut u64, o: &mut u64) -> u32;
     fn osnma_get_flx_indices(id: u64, message: u64, count: &mut u64, out: *mut u8, out_len: usize) -> u32;
-    fn osnma_mack_key(msg: *const u8, len: usize, key_size: u64, tag_size: u64, out: *mut u8, out_len: usize) -> u32;
+    fn osnma_mack_key(
+        msg: *const u8,
+        len: usize,
+        key_size_bytes: u64,
+        tag_size_bits: u64,
+        out: *mut u8,
+        out_len: usize,
+    ) -> u32;
     fn osnma_read_bits(msg: *const u8, len: usize, start: u64, width: u64, value: &mut u64) -> u32;
     fn osnma_pkr_intermediate_tree_node(msg: *const u8, len: usize, n: u64, first: &mut u64, many: &mut u64) -> u32;
 }
@@ -29,14 +43,14 @@ macro_rules! declare {
         unsafe extern "C" {
             $(fn $name(msg: *const u8, len: usize, value: &mut u64) -> u32;)*
             $(fn $part(msg: *const u8, len: usize, first: &mut u64, many: &mut u64) -> u32;)*
-            $(fn $mack(msg: *const u8, len: usize, key_size: u64, tag_size: u64, value: &mut u64) -> u32;)*
-            $(fn $tag(msg: *const u8, len: usize, key_size: u64, tag_size: u64, tag: u64, value: &mut u64) -> u32;)*
+            $(fn $mack(msg: *const u8, len: usize, key_size_bytes: u64, tag_size_bits: u64, value: &mut u64) -> u32;)*
+            $(fn $tag(msg: *const u8, len: usize, key_size_bytes: u64, tag_size_bits: u64, tag: u64, value: &mut u64) -> u32;)*
         }
     };
 }
 
 declare! {
-    osnma_kroot_number_of_blocks osnma_kroot_public_key_id osnma_kroot_chain_id osnma_kroot_key_size
+    osnma_kroot_number_of_blocks osnma_kroot_public_key_id osnma_kroot_chain_id osnma_kroot_key_size_bytes
     osnma_kroot_tag_size osnma_kroot_mac_lookup_table osnma_kroot_wn osnma_kroot_towh osnma_kroot_alpha
     osnma_kroot_ecdsa_function osnma_pkr_number_of_blocks osnma_pkr_message_id osnma_pkr_new_public_key_id
     osnma_pkr_key_size;
@@ -152,7 +166,7 @@ fn headers() {
 }
 
 fn kroot() {
-    // 8 blocks, key of 128 bits, tags of 40, P-256
+    // 8 blocks, key of 16 bytes, tags of 40 bits, P-256
     let m = messages(104, &[(0, 0x21), (2, 0x49)]);
     fn bits(m: &[u8], start: usize, width: usize) -> u64 {
         let (start, width) = (black_box(start), black_box(width));
@@ -166,7 +180,8 @@ fn kroot() {
     );
     pair("kroot public_key_id", &m, |m| DsmKroot(m).public_key_id().into(), port!(osnma_kroot_public_key_id));
     pair("kroot kroot_chain_id", &m, |m| DsmKroot(m).kroot_chain_id().into(), port!(osnma_kroot_chain_id));
-    pair("kroot key_size", &m, |m| DsmKroot(m).key_size().unwrap() as u64, port!(osnma_kroot_key_size));
+    let key_size_bytes = port!(osnma_kroot_key_size_bytes);
+    pair("kroot key_size", &m, |m| DsmKroot(m).key_size().unwrap() as u64, |m| bits_of(key_size_bytes(m)));
     pair("kroot tag_size", &m, |m| DsmKroot(m).tag_size().unwrap() as u64, port!(osnma_kroot_tag_size));
     pair("kroot mac_lookup_table", &m, |m| DsmKroot(m).mac_lookup_table().into(), port!(osnma_kroot_mac_lookup_table));
     pair("kroot kroot_wn", &m, |m| DsmKroot(m).kroot_wn().into(), port!(osnma_kroot_wn));
@@ -222,13 +237,18 @@ fn mack() {
     // tag 1 of satellite 5, ADKD 4: at bit 96 with info at bit 96 + 40
     let m = messages(60, &[(12, 5), (13, 0x40)]);
     fn of(m: &[u8]) -> Mack<'_, oracle::validation::NotValidated> {
-        Mack::new(m.try_into().unwrap(), 128, 40)
+        Mack::new(m.try_into().unwrap(), bits_of(KEY_SIZE_BYTES) as usize, 40)
     }
-    pair("mack tag0", &m, |m| of(m).tag0().load_be(), port!(osnma_mack_tag0, 128, 40));
-    pair("mack macseq", &m, |m| of(m).macseq().into(), port!(osnma_mack_macseq, 128, 40));
-    pair("mack cop", &m, |m| of(m).cop().into(), port!(osnma_mack_cop, 128, 40));
-    pair("mack tag", &m, |m| of(m).tag_and_info(1).tag().load_be(), port!(osnma_mack_tag, 128, 40, 1));
-    pair("mack tag_info", &m, |m| of(m).tag_and_info(1).tag_info().load_be(), port!(osnma_mack_tag_info, 128, 40, 1));
+    pair("mack tag0", &m, |m| of(m).tag0().load_be(), port!(osnma_mack_tag0, KEY_SIZE_BYTES, 40));
+    pair("mack macseq", &m, |m| of(m).macseq().into(), port!(osnma_mack_macseq, KEY_SIZE_BYTES, 40));
+    pair("mack cop", &m, |m| of(m).cop().into(), port!(osnma_mack_cop, KEY_SIZE_BYTES, 40));
+    pair("mack tag", &m, |m| of(m).tag_and_info(1).tag().load_be(), port!(osnma_mack_tag, KEY_SIZE_BYTES, 40, 1));
+    pair(
+        "mack tag_info",
+        &m,
+        |m| of(m).tag_and_info(1).tag_info().load_be(),
+        port!(osnma_mack_tag_info, KEY_SIZE_BYTES, 40, 1),
+    );
     pair(
         "mack prnd",
         &m,
@@ -237,7 +257,7 @@ fn mack() {
             Prnd::GalileoConstellation => 255,
             Prnd::Reserved => 0,
         },
-        port!(osnma_mack_prnd, 128, 40, 1),
+        port!(osnma_mack_prnd, KEY_SIZE_BYTES, 40, 1),
     );
     pair(
         "mack adkd",
@@ -247,15 +267,15 @@ fn mack() {
             Adkd::SlowMac => 12,
             _ => 0,
         },
-        port!(osnma_mack_adkd, 128, 40, 1),
+        port!(osnma_mack_adkd, KEY_SIZE_BYTES, 40, 1),
     );
-    pair("mack tag_cop", &m, |m| of(m).tag_and_info(1).cop().into(), port!(osnma_mack_tag_cop, 128, 40, 1));
+    pair("mack tag_cop", &m, |m| of(m).tag_and_info(1).cop().into(), port!(osnma_mack_tag_cop, KEY_SIZE_BYTES, 40, 1));
     pair("mack key, whole bytes", &m, rust_key::<40>, port_key::<40>);
     pair("mack key, half a byte in", &m, rust_key::<20>, port_key::<20>);
 }
 
 fn rust_key<const TAG: usize>(m: &[u8]) -> u64 {
-    let mack = Mack::new(m.try_into().unwrap(), 128, TAG);
+    let mack = Mack::new(m.try_into().unwrap(), bits_of(KEY_SIZE_BYTES) as usize, TAG);
     let mut key = [0u8; 16];
     key.iter_mut().zip(mack.key().chunks(8)).for_each(|(byte, bits)| *byte = bits.load_be());
     u64::from(key[0]) + u64::from(key[15])
@@ -263,7 +283,7 @@ fn rust_key<const TAG: usize>(m: &[u8]) -> u64 {
 
 fn port_key<const TAG: u64>(m: &[u8]) -> u64 {
     let mut key = [0u8; 16];
-    unsafe { osnma_mack_key(m.as_ptr(), m.len(), 128, TAG, key.as_mut_ptr(), 16) };
+    unsafe { osnma_mack_key(m.as_ptr(), m.len(), KEY_SIZE_BYTES, TAG, key.as_mut_ptr(), 16) };
     u64::from(key[0]) + u64::from(key[15])
 }
 

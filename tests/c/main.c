@@ -110,8 +110,9 @@ static void judge(int line, const char *call, uint32_t returned, uint32_t refusa
 /* A number whose low 32 bits are another. */
 #define WIDE(number) (UINT64_C(0x100000000) + (number))
 
-/* The numbers of the enums. */
+/* The version, and the numbers of the enums. */
 #define IS(name, number) _Static_assert((name) == (number), #name)
+IS(OSNMA_VERSION, 2);
 IS(OSNMA_OK, 0);
 IS(OSNMA_REFUSED_LENGTH, 1);
 IS(OSNMA_REFUSED_SATELLITE, 2);
@@ -176,11 +177,11 @@ static void kroot_numbers(void)
     GIVES(OSNMA_MF_CMAC_AES, osnma_kroot_mac_function(ALL(KROOT), &a));
     GIVES(2, osnma_kroot_mac_function(ALL("0006"), &a));
     REFUSED(5, osnma_kroot_mac_function(LEN(KROOT, 1), &a));
-    GIVES(128, osnma_kroot_key_size(ALL(KROOT), &a));
-    GIVES(96, osnma_kroot_key_size(ALL("000000"), &a));
-    GIVES(256, osnma_kroot_key_size(ALL("00008F"), &a));
-    REFUSED(6, osnma_kroot_key_size(ALL("000095"), &a));
-    REFUSED(5, osnma_kroot_key_size(LEN(KROOT, 2), &a));
+    GIVES(16, osnma_kroot_key_size_bytes(ALL(KROOT), &a));
+    GIVES(12, osnma_kroot_key_size_bytes(ALL("000000"), &a));
+    GIVES(32, osnma_kroot_key_size_bytes(ALL("00008F"), &a));
+    REFUSED(6, osnma_kroot_key_size_bytes(ALL("000095"), &a));
+    REFUSED(5, osnma_kroot_key_size_bytes(LEN(KROOT, 2), &a));
     GIVES(40, osnma_kroot_tag_size(ALL(KROOT), &a));
     GIVES(20, osnma_kroot_tag_size(ALL("0000F5"), &a));
     REFUSED(6, osnma_kroot_tag_size(ALL("000004"), &a));
@@ -308,69 +309,69 @@ static void pkr_parts(void)
 
 static void mack_tags(void)
 {
-    GIVES(6, osnma_mack_num_tags(128, 40, &a));  /* P6 */
-    GIVES(9, osnma_mack_num_tags(128, 20, &a));  /* P7 */
-    GIVES(10, osnma_mack_num_tags(96, 20, &a));  /* P8 */
-    GIVES(4, osnma_mack_num_tags(256, 40, &a));
-    REFUSED(7, osnma_mack_num_tags(127, 40, &a));
-    REFUSED(7, osnma_mack_num_tags(128, 0, &a));
-    REFUSED(7, osnma_mack_num_tags(WIDE(128), 40, &a));
+    GIVES(6, osnma_mack_num_tags(16, 40, &a));  /* P6, where K is 128 bits */
+    GIVES(9, osnma_mack_num_tags(16, 20, &a));  /* P7 */
+    GIVES(10, osnma_mack_num_tags(12, 20, &a)); /* P8, where K is 96 bits */
+    GIVES(4, osnma_mack_num_tags(32, 40, &a));
+    REFUSED(7, osnma_mack_num_tags(17, 40, &a));
+    REFUSED(7, osnma_mack_num_tags(16, 0, &a));
+    REFUSED(7, osnma_mack_num_tags(WIDE(16), 40, &a));
 
-    GIVES(UINT64_C(0xe37bc4f858), osnma_mack_tag0(ALL(MACK), 128, 40, &a));
-    GIVES(0xe37bc, osnma_mack_tag0(ALL(MACK), 128, 20, &a));
-    REFUSED(1, osnma_mack_tag0(LEN(MACK, 59), 128, 40, &a));
+    GIVES(UINT64_C(0xe37bc4f858), osnma_mack_tag0(ALL(MACK), 16, 40, &a));
+    GIVES(0xe37bc, osnma_mack_tag0(ALL(MACK), 16, 20, &a));
+    REFUSED(1, osnma_mack_tag0(LEN(MACK, 59), 16, 40, &a));
     REFUSED(1, osnma_mack_tag0(LEN(MACK, 61), 0, 0, &a));
-    REFUSED(7, osnma_mack_tag0(ALL(MACK), 128, 36, &a));
-    GIVES(0xabc, osnma_mack_macseq(ALL(MACK), 128, 40, &a));
-    REFUSED(1, osnma_mack_macseq(NULL, 0, 128, 40, &a));
-    REFUSED(7, osnma_mack_macseq(ALL(MACK), 136, 40, &a));
-    GIVES(15, osnma_mack_cop(ALL(MACK), 128, 40, &a));
-    GIVES(5, osnma_mack_cop(ALL(MACK), 128, 20, &a));
-    REFUSED(1, osnma_mack_cop(LEN(MACK, 61), 128, 40, &a));
+    REFUSED(7, osnma_mack_tag0(ALL(MACK), 16, 36, &a));
+    GIVES(0xabc, osnma_mack_macseq(ALL(MACK), 16, 40, &a));
+    REFUSED(1, osnma_mack_macseq(NULL, 0, 16, 40, &a));
+    REFUSED(7, osnma_mack_macseq(ALL(MACK), 17, 40, &a));
+    GIVES(15, osnma_mack_cop(ALL(MACK), 16, 40, &a));
+    GIVES(5, osnma_mack_cop(ALL(MACK), 16, 20, &a));
+    REFUSED(1, osnma_mack_cop(LEN(MACK, 61), 16, 40, &a));
     REFUSED(7, osnma_mack_cop(ALL(MACK), 0, 40, &a));
 
-    GIVES(UINT64_C(0x7bb238c883), osnma_mack_tag(ALL(MACK), 128, 40, 2, &a));
-    GIVES(0x8abcf, osnma_mack_tag(ALL(MACK), 128, 20, 1, &a)); /* half a byte in */
-    GIVES(0x401f0, osnma_mack_tag(ALL(MACK), 96, 20, 9, &a));
-    REFUSED(7, osnma_mack_tag(ALL(MACK), 128, 40, 0, &a));
-    REFUSED(7, osnma_mack_tag(ALL(MACK), 128, 40, 6, &a));
-    REFUSED(7, osnma_mack_tag(ALL(MACK), 128, 40, WIDE(2), &a));
-    REFUSED(7, osnma_mack_tag(ALL(MACK), 128, 41, 2, &a));
-    REFUSED(1, osnma_mack_tag(LEN(MACK, 59), 128, 41, 0, &a));
-    GIVES(0x024f, osnma_mack_tag_info(ALL(MACK), 128, 40, 2, &a));
-    GIVES(0x7892, osnma_mack_tag_info(ALL(MACK), 128, 20, 8, &a));
-    REFUSED(7, osnma_mack_tag_info(ALL(MACK), 128, 20, 9, &a));
-    REFUSED(1, osnma_mack_tag_info(LEN(MACK, 59), 128, 40, 2, &a));
-    GIVES(2, osnma_mack_prnd(ALL(MACK), 128, 40, 2, &a));
-    GIVES(OSNMA_PRND_CONSTELLATION, osnma_mack_prnd(ALL(MACK), 128, 40, 3, &a));
-    GIVES(37, osnma_mack_prnd(ALL(MACK), 128, 40, 4, &a));
-    REFUSED(7, osnma_mack_prnd(ALL(MACK), 128, 40, 0, &a));
-    REFUSED(1, osnma_mack_prnd(LEN(MACK, 61), 128, 40, 2, &a));
-    GIVES(OSNMA_ADKD_INAV_TIMING, osnma_mack_adkd(ALL(MACK), 128, 40, 2, &a));
-    GIVES(OSNMA_ADKD_SLOW_MAC, osnma_mack_adkd(ALL(MACK), 128, 40, 3, &a));
-    GIVES(3, osnma_mack_adkd(ALL(MACK), 128, 40, 4, &a));
-    REFUSED(7, osnma_mack_adkd(ALL(MACK), 128, 40, 6, &a));
-    REFUSED(1, osnma_mack_adkd(LEN(MACK, 0), 128, 40, 2, &a));
-    GIVES(15, osnma_mack_tag_cop(ALL(MACK), 128, 40, 2, &a));
-    GIVES(1, osnma_mack_tag_cop(ALL(MACK), 128, 40, 5, &a));
-    REFUSED(7, osnma_mack_tag_cop(ALL(MACK), 128, 40, 6, &a));
-    REFUSED(1, osnma_mack_tag_cop(LEN(MACK, 59), 128, 40, 2, &a));
+    GIVES(UINT64_C(0x7bb238c883), osnma_mack_tag(ALL(MACK), 16, 40, 2, &a));
+    GIVES(0x8abcf, osnma_mack_tag(ALL(MACK), 16, 20, 1, &a)); /* half a byte in */
+    GIVES(0x401f0, osnma_mack_tag(ALL(MACK), 12, 20, 9, &a));
+    REFUSED(7, osnma_mack_tag(ALL(MACK), 16, 40, 0, &a));
+    REFUSED(7, osnma_mack_tag(ALL(MACK), 16, 40, 6, &a));
+    REFUSED(7, osnma_mack_tag(ALL(MACK), 16, 40, WIDE(2), &a));
+    REFUSED(7, osnma_mack_tag(ALL(MACK), 16, 41, 2, &a));
+    REFUSED(1, osnma_mack_tag(LEN(MACK, 59), 16, 41, 0, &a));
+    GIVES(0x024f, osnma_mack_tag_info(ALL(MACK), 16, 40, 2, &a));
+    GIVES(0x7892, osnma_mack_tag_info(ALL(MACK), 16, 20, 8, &a));
+    REFUSED(7, osnma_mack_tag_info(ALL(MACK), 16, 20, 9, &a));
+    REFUSED(1, osnma_mack_tag_info(LEN(MACK, 59), 16, 40, 2, &a));
+    GIVES(2, osnma_mack_prnd(ALL(MACK), 16, 40, 2, &a));
+    GIVES(OSNMA_PRND_CONSTELLATION, osnma_mack_prnd(ALL(MACK), 16, 40, 3, &a));
+    GIVES(37, osnma_mack_prnd(ALL(MACK), 16, 40, 4, &a));
+    REFUSED(7, osnma_mack_prnd(ALL(MACK), 16, 40, 0, &a));
+    REFUSED(1, osnma_mack_prnd(LEN(MACK, 61), 16, 40, 2, &a));
+    GIVES(OSNMA_ADKD_INAV_TIMING, osnma_mack_adkd(ALL(MACK), 16, 40, 2, &a));
+    GIVES(OSNMA_ADKD_SLOW_MAC, osnma_mack_adkd(ALL(MACK), 16, 40, 3, &a));
+    GIVES(3, osnma_mack_adkd(ALL(MACK), 16, 40, 4, &a));
+    REFUSED(7, osnma_mack_adkd(ALL(MACK), 16, 40, 6, &a));
+    REFUSED(1, osnma_mack_adkd(LEN(MACK, 0), 16, 40, 2, &a));
+    GIVES(15, osnma_mack_tag_cop(ALL(MACK), 16, 40, 2, &a));
+    GIVES(1, osnma_mack_tag_cop(ALL(MACK), 16, 40, 5, &a));
+    REFUSED(7, osnma_mack_tag_cop(ALL(MACK), 16, 40, 6, &a));
+    REFUSED(1, osnma_mack_tag_cop(LEN(MACK, 59), 16, 40, 2, &a));
 }
 
 static void mack_key(void)
 {
-    COPIES(CHAIN_KEY, osnma_mack_key(ALL(MACK), 128, 40, out, 16)); /* P6 */
+    COPIES(CHAIN_KEY, osnma_mack_key(ALL(MACK), 16, 40, out, 16)); /* P6 */
     COPIES("401F0E1D2C3B4A5968778695A4B3C2D1",
-           osnma_mack_key(ALL(MACK), 128, 20, out, 16)); /* P7, half a byte in */
-    COPIES("C3B4A5968778695A4B3C2D1E", osnma_mack_key(ALL(MACK), 96, 20, out, 12)); /* P8 */
+           osnma_mack_key(ALL(MACK), 16, 20, out, 16)); /* P7, half a byte in */
+    COPIES("C3B4A5968778695A4B3C2D1E", osnma_mack_key(ALL(MACK), 12, 20, out, 12)); /* P8 */
     COPIES("BBCCDDEEFF253501234567892401F0E1D2C3B4A5968778695A4B3C2D1E0F5A5A",
-           osnma_mack_key(ALL(MACK), 256, 40, out, 32));
-    REFUSED(1, osnma_mack_key(ALL(MACK), 128, 40, out, 15));
-    REFUSED(1, osnma_mack_key(ALL(MACK), 128, 40, out, 17));
-    REFUSED(1, osnma_mack_key(ALL(MACK), 128, 40, NULL, 0));
-    REFUSED(7, osnma_mack_key(ALL(MACK), 128, 39, out, 15));
+           osnma_mack_key(ALL(MACK), 32, 40, out, 32));
+    REFUSED(1, osnma_mack_key(ALL(MACK), 16, 40, out, 15));
+    REFUSED(1, osnma_mack_key(ALL(MACK), 16, 40, out, 17));
+    REFUSED(1, osnma_mack_key(ALL(MACK), 16, 40, NULL, 0));
+    REFUSED(7, osnma_mack_key(ALL(MACK), 16, 39, out, 15));
     REFUSED(7, osnma_mack_key(ALL(MACK), 0, 40, NULL, 0));
-    REFUSED(1, osnma_mack_key(LEN(MACK, 59), 128, 39, out, 16));
+    REFUSED(1, osnma_mack_key(LEN(MACK, 59), 16, 39, out, 16));
 }
 
 static void maclt(void)
@@ -415,14 +416,21 @@ static const char *digits(const char *text, uint64_t first, uint64_t many)
     return part;
 }
 
+/* By code; 0 is a reserved one. */
+static const uint64_t key_sizes[16] = {12, 13, 14, 15, 16, 20, 24, 28, 32}; /* in bytes */
+static const uint64_t tag_sizes[16] = {[5] = 20, 24, 28, 32, 40};           /* in bits */
+
+/* The pairs of a listed key size and a listed tag size. */
+#define PAIRS (9 * 5)
+#define KEY(pair) key_sizes[(pair) / 5]
+#define TAG(pair) tag_sizes[5 + (pair) % 5]
+
 /* The lists of sizes and counts, the key of every pair of sizes, and nt of every table ID.
  * 0: refused. */
 static void lists(void)
 {
     static const uint64_t kroot_blocks[16] = {[1] = 7, 8, 9, 10, 11, 12, 13, 14};
     static const uint64_t pkr_blocks[16] = {[7] = 13, 14, 15, 16};
-    static const uint64_t key_sizes[16] = {96, 104, 112, 120, 128, 160, 192, 224, 256};
-    static const uint64_t tag_sizes[16] = {[5] = 20, 24, 28, 32, 40};
     static const uint64_t nt[256] = {
         [27] = 6, [28] = 10, [31] = 5, [33] = 6, 6, 6, 5, 5, 5, 4, 4, 4
     };
@@ -430,18 +438,51 @@ static void lists(void)
         uint8_t high[3] = {(uint8_t)(i << 4), 0, (uint8_t)(i << 4)}, low[3] = {0, 0, (uint8_t)i};
         LISTED(kroot_blocks[i], 6, osnma_kroot_number_of_blocks(high, 1, &a));
         LISTED(pkr_blocks[i], 6, osnma_pkr_number_of_blocks(high, 1, &a));
-        LISTED(key_sizes[i], 6, osnma_kroot_key_size(high, 3, &a));
+        LISTED(key_sizes[i], 6, osnma_kroot_key_size_bytes(high, 3, &a));
         LISTED(tag_sizes[i], 6, osnma_kroot_tag_size(low, 3, &a));
     }
-    for (unsigned i = 0; i < 9; i++) {
-        for (unsigned j = 5; j < 10; j++) {
-            uint64_t key = key_sizes[i], tag = tag_sizes[j], tags = (480 - key) / (tag + 16);
-            GIVES(tags, osnma_mack_num_tags(key, tag, &a));
-            COPIES(digits(MACK, tags * (tag + 16) / 4, key / 4),
-                   osnma_mack_key(ALL(MACK), key, tag, out, (size_t)key / 8));
-        }
+    for (unsigned pair = 0; pair < PAIRS; pair++) {
+        uint64_t key = KEY(pair), tag = TAG(pair), tags = (480 - 8 * key) / (tag + 16);
+        GIVES(tags, osnma_mack_num_tags(key, tag, &a));
+        COPIES(digits(MACK, tags * (tag + 16) / 4, 2 * key),
+               osnma_mack_key(ALL(MACK), key, tag, out, (size_t)key));
     }
     for (unsigned id = 0; id < 256; id++) LISTED(nt[id], 8, osnma_maclt_nt(id, &a));
+}
+
+/* A key size in bits is refused by every function that takes one; so is one that was divided by 8. */
+static void key_sizes_in_bits(void)
+{
+    for (unsigned pair = 0; pair < PAIRS; pair++) {
+        uint64_t key = KEY(pair), tag = TAG(pair);
+        REFUSED(7, osnma_mack_num_tags(8 * key, tag, &a));
+        REFUSED(7, osnma_mack_num_tags(key / 8, tag, &a));
+        REFUSED(7, osnma_mack_tag0(ALL(MACK), 8 * key, tag, &a));
+        REFUSED(7, osnma_mack_macseq(ALL(MACK), 8 * key, tag, &a));
+        REFUSED(7, osnma_mack_cop(ALL(MACK), 8 * key, tag, &a));
+        REFUSED(7, osnma_mack_tag(ALL(MACK), 8 * key, tag, 1, &a));
+        REFUSED(7, osnma_mack_tag_info(ALL(MACK), 8 * key, tag, 1, &a));
+        REFUSED(7, osnma_mack_prnd(ALL(MACK), 8 * key, tag, 1, &a));
+        REFUSED(7, osnma_mack_adkd(ALL(MACK), 8 * key, tag, 1, &a));
+        REFUSED(7, osnma_mack_tag_cop(ALL(MACK), 8 * key, tag, 1, &a));
+        REFUSED(7, osnma_mack_key(ALL(MACK), 8 * key, tag, out, (size_t)key));
+    }
+}
+
+/* Key and tag size exchanged pass where both are 20, 24, 28 or 32: the manual says 12 unlike pairs. */
+static void sizes_exchanged(void)
+{
+    unsigned pass = 0;
+    for (unsigned pair = 0; pair < PAIRS; pair++) {
+        uint64_t key = KEY(pair), tag = TAG(pair);
+        int both = key >= 20 && tag <= 32;
+        if (both && key != tag) pass++;
+        LISTED(both ? (480 - 8 * tag) / (key + 16) : 0, 7, osnma_mack_num_tags(tag, key, &a));
+    }
+    checks++;
+    if (pass == 12) return;
+    failed++;
+    printf("main.c:%d: %u pairs pass exchanged, wanted 12\n", __LINE__, pass);
 }
 
 static void bits(void)
@@ -470,6 +511,8 @@ int main(void)
     mack_key();
     maclt();
     lists();
+    key_sizes_in_bits();
+    sizes_exchanged();
     bits();
     printf("C test: %u checks, %u failed\n", checks, failed);
     return failed != 0;

@@ -33,7 +33,7 @@ static const struct exported all[] = {
     EXPORTED(osnma_kroot_chain_id, "m1"),
     EXPORTED(osnma_kroot_hash_function, "m1"),
     EXPORTED(osnma_kroot_mac_function, "m1"),
-    EXPORTED(osnma_kroot_key_size, "m1"),
+    EXPORTED(osnma_kroot_key_size_bytes, "m1"),
     EXPORTED(osnma_kroot_tag_size, "m1"),
     EXPORTED(osnma_kroot_mac_lookup_table, "m1"),
     EXPORTED(osnma_kroot_wn, "m1"),
@@ -104,7 +104,7 @@ static size_t arguments_of(const char *letters, uint64_t *arguments)
 {
     size_t many = 0;
     int is_mack = letters[0] == 'm' && letters[1] == 'K';
-    uint64_t key_size = 0;
+    uint64_t key_size_bytes = 0;
     for (; *letters != 0; letters++) {
         switch (*letters) {
         case 'h': arguments[many++] = any() % 260; break;
@@ -115,14 +115,14 @@ static size_t arguments_of(const char *letters, uint64_t *arguments)
             break;
         case 'n': arguments[many++] = any() % 5; break;
         case 'K':
-            key_size = ONE_OF(96, 104, 112, 120, 128, 160, 192, 224, 256);
-            arguments[many++] = key_size;
+            key_size_bytes = ONE_OF(12, 13, 14, 15, 16, 20, 24, 28, 32);
+            arguments[many++] = key_size_bytes;
             break;
         case 'T': arguments[many++] = ONE_OF(20, 24, 28, 32, 40); break;
         case 't': arguments[many++] = any() % 11; break;
         case 'o':
             arguments[many++] = (uint64_t)(uintptr_t)out;
-            arguments[many++] = is_mack ? key_size / 8 % (sizeof out + 1) : 4 + any() % 8 / 7;
+            arguments[many++] = is_mack ? key_size_bytes % (sizeof out + 1) : 4 + any() % 8 / 7;
             break;
         case 'i': arguments[many++] = 27 + any() % 16; break;
         case 'g': arguments[many++] = any() % 3; break;

@@ -39,7 +39,7 @@ pub record Agreed : Type 0 where
   pub osnma-kroot-chain-id : (m : List ℕ) (b : ℕ) → AgreeOne (kroot.KrootChainId m b)
   pub osnma-kroot-hash-function : (m : List ℕ) (b : ℕ) → AgreeOne (kroot.KrootHashFunction m b)
   pub osnma-kroot-mac-function : (m : List ℕ) (b : ℕ) → AgreeOne (kroot.KrootMacFunction m b)
-  pub osnma-kroot-key-size : (m : List ℕ) (b : ℕ) → AgreeOne (kroot.KrootKeySize m b)
+  pub osnma-kroot-key-size-bytes : (m : List ℕ) (b : ℕ) → AgreeOne (kroot.KrootKeySize m b)
   pub osnma-kroot-tag-size : (m : List ℕ) (b : ℕ) → AgreeOne (kroot.KrootTagSize m b)
   pub osnma-kroot-mac-lookup-table : (m : List ℕ) (b : ℕ) → AgreeOne (kroot.KrootMacLookupTable m b)
   pub osnma-kroot-wn : (m : List ℕ) (b : ℕ) → AgreeOne (kroot.KrootWn m b)

@@ -3,7 +3,7 @@
 -- Assumes nothing.
 use Prim.Native.Nat.{ℕ, _+_, _*_, _/_, _^_, _≤_, _<_}
 use mathlib.Core.List.{List, [], _∷_, _++_, map}
-use mathlib.Core.Bool.{Bool, true, cond}
+use mathlib.Core.Bool.{true, cond}
 use mathlib.Core.Path.{_≡_}
 use lib.ListN.{length}
 use lib.Dec.{ltb, eqb}
@@ -12,7 +12,7 @@ use Rattle.layouts.specs.Bits.{Field, value, reach, bytesFrom}
 use Rattle.layouts.specs.Sizes.{Size, size, krootBlocks, pkrBlocks, keySizes, tagSizes}
 use Rattle.layouts.specs.DsmKroot as kroot
 use Rattle.layouts.specs.DsmPkr as pkr
-use Rattle.layouts.specs.Mack.{sizesOf, listed, nt, keyChecks, keyStart, keyCopied}
+use Rattle.layouts.specs.Mack.{sizesOf, listed, sizeChecks, nt, keyChecks, keyStart, keyCopied}
 use Rattle.layouts.specs.Maclt as paper
 use Rattle.firmware.specs.Outcome.{One, one, Two, two, Slot, slot, Bytes, bytes, Counted, counted}
 
@@ -91,7 +91,7 @@ pub record PartsInside (m : List ℕ) : Type 0 where
   pub leaf : Inside m (pkr.leafPart m)
   pub pkr-padding : Inside m (pkr.paddingPart m)
 
--- DS: "len .. is 13 plus k + 64 rounded up to a multiple of 13, or the same with 132 for 64. With a key of 128 bits (k = 16) that is 104 or 169."
+-- DS: "len .. is 13 plus k + 64 rounded up to a multiple of 13, or the same with 132 for 64. With a key of 16 bytes that is 104 or 169."
 abbrev pub up : ℕ → ℕ
 up n = (n + 12) / 13 * 13
 
@@ -118,10 +118,10 @@ EndsAfter =
     map (λ (type : ℕ). map (endsAfter type) (13 ∷ 14 ∷ 15 ∷ 16 ∷ [])) (1 ∷ 3 ∷ 4 ∷ [])
     ≡ (0 ∷ 0 ∷ 0 ∷ 0 ∷ []) ∷ (13 ∷ 14 ∷ 15 ∷ 0 ∷ []) ∷ (0 ∷ 0 ∷ 0 ∷ 0 ∷ []) ∷ []
 
--- "nt = (480 - K) / (T + 16), rounded down: 4..10": a line for each K, with T from 20 to 40
+-- "nt = (480 - 8 x k) / (T + 16), rounded down: 4..10": a line for each k, with T from 20 to 40
 abbrev pub NumTagsOf : Type 0
 NumTagsOf =
-    map (λ (K : ℕ). map (nt (K / 8)) (sizesOf tagSizes)) (sizesOf keySizes)
+    map (λ (k : ℕ). map (nt k) (sizesOf tagSizes)) (sizesOf keySizes)
     ≡ (10 ∷ 9 ∷ 8 ∷ 8 ∷ 6 ∷ []) ∷
     (10 ∷ 9 ∷ 8 ∷ 7 ∷ 6 ∷ []) ∷
     (10 ∷ 9 ∷ 8 ∷ 7 ∷ 6 ∷ []) ∷
@@ -154,11 +154,15 @@ oddOf (r ∷ rs) = odd (r .message0) ++ odd (r .message1) ++ oddOf rs
 abbrev pub NoneOdd : Type 0
 NoneOdd = oddOf paper.table ≡ []
 
--- OSNMA_DSM_MAX_BYTES 208, OSNMA_MAX_KEY_BYTES 32: 13 bytes for each block, and the bytes of a TESLA key
+-- OSNMA_DSM_MAX_BYTES 208: 13 bytes for each block
 abbrev pub DsmBytes : Type 0
 DsmBytes =
     map (λ (s : Size). 13 * s .stands-for) (krootBlocks ++ pkrBlocks)
     ≡ 91 ∷ 104 ∷ 117 ∷ 130 ∷ 143 ∷ 156 ∷ 169 ∷ 182 ∷ 169 ∷ 182 ∷ 195 ∷ 208 ∷ []
 
-abbrev pub KeyBytes : Type 0
-KeyBytes = map (λ (K : ℕ). K / 8) (sizesOf keySizes) ≡ 12 ∷ 13 ∷ 14 ∷ 15 ∷ 16 ∷ 20 ∷ 24 ∷ 28 ∷ 32 ∷ []
+-- "Firmware that still divides it by 8 gets 1 to 4, which is refused with 7 too": the quotients, and with any tag size
+abbrev pub Divided : Type 0
+Divided = map (λ (k : ℕ). k / 8) (sizesOf keySizes) ≡ 1 ∷ 1 ∷ 1 ∷ 1 ∷ 2 ∷ 2 ∷ 3 ∷ 3 ∷ 4 ∷ []
+
+abbrev pub DividedRefused : Type 0
+DividedRefused = (k T : ℕ) → listed k (sizesOf keySizes) ≡ true → refusal (sizeChecks (k / 8) T) ≡ 7

@@ -45,20 +45,20 @@ pub extern "C" fn osnma_kroot_mac_function(msg: &[u8], value: &mut u64) -> u32
     tell::number(dsm_kroot::mac_function_number(msg), value)
 }
 
-// KS, in bits: 5, 6.
+// KS, in bytes: 5, 6.
 #[no_mangle]
-pub extern "C" fn osnma_kroot_key_size(msg: &[u8], value: &mut u64) -> u32
-    ensures { λ r. ⌜ KrootKeySize (now (msg .entry)) (now (value .entry)) r (now (value .exit)) ⌝ }
+pub extern "C" fn osnma_kroot_key_size_bytes(msg: &[u8], key_size_bytes: &mut u64) -> u32
+    ensures { λ r. ⌜ KrootKeySize (now (msg .entry)) (now («key_size_bytes» .entry)) r (now («key_size_bytes» .exit)) ⌝ }
 {
-    tell::number(dsm_kroot::key_size(msg), value)
+    tell::number(dsm_kroot::key_size(msg), key_size_bytes)
 }
 
 // TS, in bits: 5, 6.
 #[no_mangle]
-pub extern "C" fn osnma_kroot_tag_size(msg: &[u8], value: &mut u64) -> u32
-    ensures { λ r. ⌜ KrootTagSize (now (msg .entry)) (now (value .entry)) r (now (value .exit)) ⌝ }
+pub extern "C" fn osnma_kroot_tag_size(msg: &[u8], tag_size_bits: &mut u64) -> u32
+    ensures { λ r. ⌜ KrootTagSize (now (msg .entry)) (now («tag_size_bits» .entry)) r (now («tag_size_bits» .exit)) ⌝ }
 {
-    tell::number(dsm_kroot::tag_size(msg), value)
+    tell::number(dsm_kroot::tag_size(msg), tag_size_bits)
 }
 
 // MACLT: 5.

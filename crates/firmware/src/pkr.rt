@@ -38,10 +38,10 @@ pub extern "C" fn osnma_pkr_new_public_key_id(msg: &[u8], value: &mut u64) -> u3
 
 // The size of the new key, in bytes: 5, 6.
 #[no_mangle]
-pub extern "C" fn osnma_pkr_key_size(msg: &[u8], value: &mut u64) -> u32
-    ensures { λ r. ⌜ PkrKeySize (now (msg .entry)) (now (value .entry)) r (now (value .exit)) ⌝ }
+pub extern "C" fn osnma_pkr_key_size(msg: &[u8], key_size_bytes: &mut u64) -> u32
+    ensures { λ r. ⌜ PkrKeySize (now (msg .entry)) (now («key_size_bytes» .entry)) r (now («key_size_bytes» .exit)) ⌝ }
 {
-    tell::number(dsm_pkr::key_size(msg), value)
+    tell::number(dsm_pkr::key_size(msg), key_size_bytes)
 }
 
 // NPK: 5, 6, 5.

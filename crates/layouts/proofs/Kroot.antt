@@ -3,7 +3,7 @@
 use mathlib.Core.Path.{_≡_, refl, sym, ap, _∙_}
 use mathlib.Core.List.{List, [], _∷_, _++_}
 use mathlib.Core.Bool.{Bool, true, false, cond}
-use Prim.Native.Nat.{ℕ, _+_, _-_, _/_, _≤_, _<_}
+use Prim.Native.Nat.{ℕ, _+_, _-_, _≤_, _<_}
 use native.Mathlib.Omega.{arith}
 use lib.Dec.{ltb, leb, eqb, leb→le}
 use lib.ListN.{length}
@@ -43,7 +43,7 @@ blocks-few m = leb→le _ _ (holds-below 16 (λ c. leb (size krootBlocks c) 14) 
 -- a key has at most 32 bytes
 pub key-few : (m : List ℕ) → keyBytes m ≤ 32
 unfolding keySizes
-key-few m = leb→le _ _ (holds-below 16 (λ c. leb (size keySizes c / 8) 32) tt (value (the "KS" krootLayout) m) (field-lt m 16 4))
+key-few m = leb→le _ _ (holds-below 16 (λ c. leb (size keySizes c) 32) tt (value (the "KS" krootLayout) m) (field-lt m 16 4))
 
 -- a padding is shorter than a block
 pub padding-few : (n : ℕ) → padding-to-block n < 13
@@ -101,12 +101,12 @@ module _ (m : List ℕ) where
     unfolding krootPart
     kroot-refused g = refused-too (keyChecks m) _ (size keySizes (value (the "KS" krootLayout) m) ∷ []) _ (rw g at e)
 
-    pub kroot-given : {v : ℕ} {r : Answer} → x ≡ Value v → r ≡ part m [] 13 (v / 8) → r ≡ krootPart m
+    pub kroot-given : {v : ℕ} {r : Answer} → x ≡ Value v → r ≡ part m [] 13 v → r ≡ krootPart m
     unfolding krootPart
     kroot-given {v} g h =
         let gave : gives (v ∷ []) ≡ readSize (the "KS" krootLayout) (size keySizes) m = rw g at e in
         passed (keyChecks m) _ (size keySizes (value (the "KS" krootLayout) m) ∷ []) _ tt gave
-        (h ∙ ap (λ (n : ℕ). part m [] 13 (n / 8)) (first-of (answer-of _ (size keySizes (value (the "KS" krootLayout) m) ∷ []) gave)))
+        (h ∙ ap (λ (n : ℕ). part m [] 13 n) (first-of (answer-of _ (size keySizes (value (the "KS" krootLayout) m) ∷ []) gave)))
 
   -- the signature, after the key
   module _ {x : Part} (e : meaning-part x ≡ krootPart m) where

@@ -1,9 +1,9 @@
 -- The tables, as a whole: each statement computes.
 -- Assumes nothing.
-use Prim.Native.Nat.{ℕ, _+_, _*_, _/_}
+use Prim.Native.Nat.{ℕ, _+_, _*_}
 use native.Mathlib.Omega.{arith}
 use mathlib.Core.Bool.{Bool}
-use mathlib.Core.Path.{_≡_, refl, ap, subst}
+use mathlib.Core.Path.{_≡_, refl, ap}
 use lib.Dec.{T, leb, leb→le, eqb, eqb→eq}
 use lib.ListN.{getD, drop}
 use borrow.Author.Tests.{not-false}
@@ -11,8 +11,9 @@ use Rattle.layouts.specs.Answer.{refusals, refusal}
 use Rattle.layouts.specs.Bits.{field, Field, row, gapless}
 use Rattle.layouts.specs.DsmPkr.{pkrLayout}
 use Rattle.layouts.specs.Sizes.{keySizes, tagSizes}
-use Rattle.layouts.specs.Mack.{sizesOf, sizeChecks, nt, mackLayout}
+use Rattle.layouts.specs.Mack.{listed, sizesOf, sizeChecks, nt, mackLayout}
 use Rattle.layouts.specs.Layouts.{Covered, KrootFollows, PkrFollows, Numbered, NodesLie, TagsAtLeastFour, KeyStarts, TagInfoIs}
+use Rattle.layouts.specs.Layouts.{keyBits, SameKeys, BitsRefused, Exchanged}
 use Rattle.layouts.proofs.Answers.{none-fails}
 use Rattle.layouts.proofs.Fields.{field-add}
 use Rattle.layouts.proofs.Tables.{holds-below, every}
@@ -33,16 +34,15 @@ nodes-lie n h = (
   eqb→eq _ _ (holds-below 4 (λ k. eqb (node-row k .width) (8 * 32)) tt n h),
 )
 
--- a test of every listed key size and tag size, as key bytes and tag bits, is a test of any that are not refused
+-- a test of every listed key size and tag size is a test of any that are not refused
 abbrev every-pair : (ℕ → ℕ → Bool) → Bool
-every-pair test = every (λ K. every (λ T. test (K / 8) T) (sizesOf tagSizes)) (sizesOf keySizes)
+every-pair test = every (λ k. every (λ T. test k T) (sizesOf tagSizes)) (sizesOf keySizes)
 
 of-sizes : (test : ℕ → ℕ → Bool) (k T′ : ℕ) → T (every-pair test) → refusal (sizeChecks k T′) ≡ 0 → T (test k T′)
 of-sizes test k T′ t e =
     let p = none-fails (sizeChecks k T′) tt e in
-    let whole : 8 * k / 8 ≡ k = omega arith in
-    let of-key = of-listed (λ K. every (λ T. test (K / 8) T) (sizesOf tagSizes)) (8 * k) (sizesOf keySizes) t (not-false _ (p .0)) in
-    subst (λ (j : ℕ). T (test j T′)) whole (of-listed (λ T. test (8 * k / 8) T) T′ (sizesOf tagSizes) of-key (not-false _ (p .1 .0)))
+    let of-key = of-listed (λ k. every (λ T. test k T) (sizesOf tagSizes)) k (sizesOf keySizes) t (not-false _ (p .0)) in
+    of-listed (λ T. test k T) T′ (sizesOf tagSizes) of-key (not-false _ (p .1 .0))
 
 pub covered : Covered
 unfolding keySizes tagSizes nt
@@ -72,6 +72,19 @@ tags-at-least-four k T e = (
 pub key-starts : KeyStarts
 unfolding keySizes tagSizes nt
 key-starts = refl
+
+pub same-keys : SameKeys
+unfolding keySizes
+same-keys = refl
+
+-- none of the bits is listed: computed
+pub bits-refused : BitsRefused
+unfolding keySizes listed refusal
+bits-refused K T e = eqb→eq _ _ (of-listed (λ K. eqb (refusal (sizeChecks K T)) 7) K keyBits tt e)
+
+pub exchanged : Exchanged
+unfolding keySizes tagSizes listed refusal
+exchanged = refl
 
 pub tag-info-is : TagInfoIs
 tag-info-is m T n =

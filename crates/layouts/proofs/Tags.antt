@@ -15,7 +15,7 @@ use borrow.Author.Tests.{eqb-true, eqb-false, leb-false, eq-eqb, ne-eqb, lt-ltb,
 use Rattle.layouts.specs.Answer.{Answer, refused, gives, Copied, Check, _when_, refusal, answered}
 use Rattle.layouts.specs.Bits.{field, bytesFrom}
 use Rattle.layouts.specs.Sizes.{keySizes, tagSizes, Named, naming}
-use Rattle.layouts.specs.Mack.{listed, sizesOf, bytesOf, sizeChecks, mackChecks, nt, tagChecks, prndName, keyChecks, keyCopied}
+use Rattle.layouts.specs.Mack.{listed, sizesOf, sizeChecks, mackChecks, nt, tagChecks, prndName, keyChecks, keyCopied}
 use Rattle.layouts.specs.inner.Code.{Room}
 use Rattle.layouts.specs.Meaning.{meaning-number}
 use Rattle.layouts.specs.declared.answer.Number.{Number}
@@ -50,6 +50,36 @@ unfolding listed
 not-in-list n [] e = refl
 not-in-list n (s ∷ ss) e = out-later n s ss e
 
+-- Numbers in a row are one range to the code's match: a list that begins with `many` of them, from `lo` on.
+abbrev row-then : ℕ → ℕ → List ℕ → List ℕ
+row-then lo zero ss = ss
+row-then lo (suc many) ss = lo ∷ row-then (suc lo) many ss
+
+pub in-row : (lo many n : ℕ) (ss : List ℕ) → lo ≤ n → n < lo + many → true ≡ listed n (row-then lo many ss)
+unfolding listed
+in-row lo zero n ss l h = absurd (omega arith)
+in-row lo (suc many) n ss l h = go (eqb n lo) refl (λ r. in-row (suc lo) many n ss r (omega arith))
+  where
+    go : (b : Bool) → eqb n lo ≡ b → (suc lo ≤ n → true ≡ listed n (row-then (suc lo) many ss))
+        → true ≡ cond b true (listed n (row-then (suc lo) many ss))
+    go true e more = refl
+    go false e more = more (omega (arith, eqb-false n lo e))
+
+pub behind-row : (lo many n : ℕ) (ss : List ℕ) → OneOf ss n → true ≡ listed n (row-then lo many ss)
+unfolding listed
+behind-row lo zero n ss e = in-list n ss e
+behind-row lo (suc many) n ss e = go (eqb n lo) (behind-row (suc lo) many n ss e)
+  where
+    go : (b : Bool) → true ≡ listed n (row-then (suc lo) many ss) → true ≡ cond b true (listed n (row-then (suc lo) many ss))
+    go true more = refl
+    go false more = more
+
+pub not-in-row : (lo many n : ℕ) (ss : List ℕ) → (OneOf ss n → ⊥) → (lo ≤ n → lo + many ≤ n) → false ≡ listed n (row-then lo many ss)
+unfolding listed
+not-in-row lo zero n ss e h = not-in-list n ss e
+not-in-row lo (suc many) n ss e h =
+    rw (ne-eqb n lo (λ z. omega (arith, h (omega arith)))) (not-in-row (suc lo) many n ss e (λ l. omega (arith, h (omega arith))))
+
 -- a test of every number of a list is a test of any that is listed
 pub of-listed : (test : ℕ → Bool) (n : ℕ) (ss : List ℕ) → T (every test ss) → listed n ss ≡ true → T (test n)
 unfolding listed
@@ -61,107 +91,67 @@ of-listed test n (s ∷ ss) t e =
     go true b t ih h = rw (eqb-true n s b) t
     go false b t ih h = ih h
 
--- a key's size in bits, and in bytes
-pub listed-bytes : (K : ℕ) → listed (8 * bytesOf K) (sizesOf keySizes) ≡ listed K (sizesOf keySizes)
-unfolding listed keySizes
-listed-bytes K = go (eqb (K % 8) 0) refl
-  where
-    go : (b : Bool) → eqb (K % 8) 0 ≡ b → listed (8 * cond b (K / 8) 0) (sizesOf keySizes) ≡ listed K (sizesOf keySizes)
-    go true e = let h : K % 8 ≡ 0 = eqb-true (K % 8) 0 e in let w : 8 * (K / 8) ≡ K = omega arith in rw w
-    go false e =
-        let h : K % 8 ≡ 0 → ⊥ = eqb-false (K % 8) 0 e in
-        rw (
-          ne-eqb K 96 (λ z. h (omega arith)),
-          ne-eqb K 104 (λ z. h (omega arith)),
-          ne-eqb K 112 (λ z. h (omega arith)),
-          ne-eqb K 120 (λ z. h (omega arith)),
-          ne-eqb K 128 (λ z. h (omega arith)),
-          ne-eqb K 160 (λ z. h (omega arith)),
-          ne-eqb K 192 (λ z. h (omega arith)),
-          ne-eqb K 224 (λ z. h (omega arith)),
-          ne-eqb K 256 (λ z. h (omega arith)),
-        )
-
--- what is known of sizes that are not refused, and of the message
-pub record Good (K T : ℕ) : Type 0 where
-  pub whole : 8 * bytesOf K ≡ K
-  pub key-some : 96 ≤ K
-  pub key-few : K ≤ 256
+-- what is known of a key size k in bytes and a tag size T in bits that are not refused, and of the message
+pub record Good (k T : ℕ) : Type 0 where
+  pub key-some : 12 ≤ k
+  pub key-few : k ≤ 32
   pub tag-some : 20 ≤ T
   pub tag-few : T ≤ 40
   pub tag-half : T % 4 ≡ 0
 
-whole-of : (K : ℕ) → 96 ≤ 8 * bytesOf K → 8 * bytesOf K ≡ K
-whole-of K h = go (eqb (K % 8) 0) refl h
-  where
-    go : (b : Bool) → eqb (K % 8) 0 ≡ b → 96 ≤ 8 * cond b (K / 8) 0 → 8 * cond b (K / 8) 0 ≡ K
-    go true e h = omega (arith, eqb-true (K % 8) 0 e)
-    go false e h = absurd (omega arith)
-
-good-sizes : (K T : ℕ) → listed (8 * bytesOf K) (sizesOf keySizes) ≡ true → listed T (sizesOf tagSizes) ≡ true → Good K T
+good-sizes : (k T : ℕ) → listed k (sizesOf keySizes) ≡ true → listed T (sizesOf tagSizes) ≡ true → Good k T
 unfolding keySizes tagSizes
-good-sizes K T k t =
-    let some : 96 ≤ 8 * bytesOf K = leb→le _ _ (of-listed (λ s. leb 96 s) (8 * bytesOf K) (sizesOf keySizes) tt k) in
-    let few : 8 * bytesOf K ≤ 256 = leb→le _ _ (of-listed (λ s. leb s 256) (8 * bytesOf K) (sizesOf keySizes) tt k) in
-    let w : 8 * bytesOf K ≡ K = whole-of K some in
+good-sizes k T ek et =
     record {
-      whole = w;
-      key-some = omega arith;
-      key-few = omega arith;
-      tag-some = leb→le _ _ (of-listed (λ s. leb 20 s) T (sizesOf tagSizes) tt t);
-      tag-few = leb→le _ _ (of-listed (λ s. leb s 40) T (sizesOf tagSizes) tt t);
-      tag-half = eqb→eq _ _ (of-listed (λ s. eqb (s % 4) 0) T (sizesOf tagSizes) tt t);
+      key-some = leb→le _ _ (of-listed (λ s. leb 12 s) k (sizesOf keySizes) tt ek);
+      key-few = leb→le _ _ (of-listed (λ s. leb s 32) k (sizesOf keySizes) tt ek);
+      tag-some = leb→le _ _ (of-listed (λ s. leb 20 s) T (sizesOf tagSizes) tt et);
+      tag-few = leb→le _ _ (of-listed (λ s. leb s 40) T (sizesOf tagSizes) tt et);
+      tag-half = eqb→eq _ _ (of-listed (λ s. eqb (s % 4) 0) T (sizesOf tagSizes) tt et);
     }
 
-pub good : (K T : ℕ) → refusal (sizeChecks (bytesOf K) T) ≡ 0 → Good K T
-good K T e =
-    let p = none-fails (sizeChecks (bytesOf K) T) tt e in
-    good-sizes K T (not-false _ (p .0)) (not-false _ (p .1 .0))
+pub good : (k T : ℕ) → refusal (sizeChecks k T) ≡ 0 → Good k T
+good k T e =
+    let p = none-fails (sizeChecks k T) tt e in
+    good-sizes k T (not-false _ (p .0)) (not-false _ (p .1 .0))
 
-module _ (m : List ℕ) (K T : ℕ) (e : refusal (mackChecks m (bytesOf K) T) ≡ 0) where
-  pub good-mack : Good K T
+module _ (m : List ℕ) (k T : ℕ) (e : refusal (mackChecks m k T) ≡ 0) where
+  pub good-mack : Good k T
   good-mack =
-      let p = none-fails (mackChecks m (bytesOf K) T) tt e in
-      good-sizes K T (not-false _ (p .1 .0)) (not-false _ (p .1 .1 .0))
+      let p = none-fails (mackChecks m k T) tt e in
+      good-sizes k T (not-false _ (p .1 .0)) (not-false _ (p .1 .1 .0))
 
   pub sixty : length m ≡ 60
-  sixty = eqb-true (length m) 60 (not-false _ (none-fails (mackChecks m (bytesOf K) T) tt e .0))
-
--- the code's nt
-pub nt-bits : (K T : ℕ) → Good K T → (480 - K) / (T + 16) ≡ nt (bytesOf K) T
-unfolding nt
-nt-bits K T g = rw (g .whole)
+  sixty = eqb-true (length m) 60 (not-false _ (none-fails (mackChecks m k T) tt e .0))
 
 -- tag n ends before the key, and the key before the end
-pub tag-fits : (K T n : ℕ) → Good K T → n < (480 - K) / (T + 16) → n * (T + 16) + T + 16 ≤ 480
-tag-fits K T n g h =
-    let q : ℕ = (480 - K) / (T + 16) in
-    let a : (n + 1) * (T + 16) ≤ q * (T + 16) = mul-le-mul-right (T + 16) (omega arith) in
-    let b : q * (T + 16) ≤ 480 - K = div-mul-le-self (480 - K) (T + 16) in
+pub tag-fits : (k T n : ℕ) → Good k T → n < nt k T → n * (T + 16) + T + 16 ≤ 480
+unfolding nt
+tag-fits k T n g h =
+    let a : (n + 1) * (T + 16) ≤ nt k T * (T + 16) = mul-le-mul-right (T + 16) (omega arith) in
+    let b : nt k T * (T + 16) ≤ 480 - 8 * k = div-mul-le-self (480 - 8 * k) (T + 16) in
     let c : (n + 1) * (T + 16) ≡ n * (T + 16) + (T + 16) = add-mul n 1 (T + 16) ∙ ap (λ (x : ℕ). n * (T + 16) + x) (one-mul (T + 16)) in
     omega arith
 
-pub key-fits : (K T : ℕ) → Good K T → (480 - K) / (T + 16) * (T + 16) + K ≤ 480
-key-fits K T g = omega (arith, div-mul-le-self (480 - K) (T + 16), g .key-few)
+pub key-fits : (k T : ℕ) → Good k T → nt k T * (T + 16) + 8 * k ≤ 480
+unfolding nt
+key-fits k T g = omega (arith, div-mul-le-self (480 - 8 * k) (T + 16), g .key-few)
 
 -- The refusal numbers, each from the tests that lead to it.
-module _ (K T : ℕ) where
-  module _ {a : Bool} (ea : a ≡ listed K (sizesOf keySizes)) where
-    key-test : listed (8 * bytesOf K) (sizesOf keySizes) ≡ a
-    key-test = listed-bytes K ∙ sym ea
-
-    pub key-unlisted : not a ≡ true → 7 ≡ refusal (sizeChecks (bytesOf K) T)
+module _ (k T : ℕ) where
+  module _ {a : Bool} (ea : a ≡ listed k (sizesOf keySizes)) where
+    pub key-unlisted : not a ≡ true → 7 ≡ refusal (sizeChecks k T)
     unfolding refusal
-    key-unlisted h = rw (key-test, h)
+    key-unlisted h = rw (← ea, h)
 
     module _ (ha : not a ≡ false) {b : Bool} (eb : b ≡ listed T (sizesOf tagSizes)) where
-      pub tag-unlisted : not b ≡ true → 7 ≡ refusal (sizeChecks (bytesOf K) T)
+      pub tag-unlisted : not b ≡ true → 7 ≡ refusal (sizeChecks k T)
       unfolding refusal
-      tag-unlisted h = rw (key-test, ha, ← eb, h)
+      tag-unlisted h = rw (← ea, ha, ← eb, h)
 
-      pub sizes-listed : not b ≡ false → 0 ≡ refusal (sizeChecks (bytesOf K) T)
+      pub sizes-listed : not b ≡ false → 0 ≡ refusal (sizeChecks k T)
       unfolding refusal
-      sizes-listed h = rw (key-test, ha, ← eb, h)
+      sizes-listed h = rw (← ea, ha, ← eb, h)
 
 module _ (m : List ℕ) (k T : ℕ) where
   pub not-sixty : (length m ≡ 60 → ⊥) → 1 ≡ refusal (mackChecks m k T)
@@ -172,55 +162,52 @@ module _ (m : List ℕ) (k T : ℕ) where
   unfolding refusal
   sixty-then e h = rw (eq-eqb (length m) 60 e) h
 
-module _ (m : List ℕ) (K T n : ℕ) where
-  module _ {q : ℕ} (e : q ≡ refusal (mackChecks m (bytesOf K) T)) where
-    pub tag-refused : (q ≡ 0 → ⊥) → q ≡ refusal (tagChecks m (bytesOf K) T n)
-    tag-refused ne = stopped (mackChecks m (bytesOf K) T) _ e ne
+module _ (m : List ℕ) (k T n : ℕ) where
+  module _ {q : ℕ} (e : q ≡ refusal (mackChecks m k T)) where
+    pub tag-refused : (q ≡ 0 → ⊥) → q ≡ refusal (tagChecks m k T n)
+    tag-refused ne = stopped (mackChecks m k T) _ e ne
 
     module _ (z : q ≡ 0) where
-      then : {r : ℕ} → r ≡ refusal (7 when eqb n 0 ∷ 7 when leb (nt (bytesOf K) T) n ∷ []) → r ≡ refusal (tagChecks m (bytesOf K) T n)
-      then h = went-on (mackChecks m (bytesOf K) T) _ tt e z h
+      then : {r : ℕ} → r ≡ refusal (7 when eqb n 0 ∷ 7 when leb (nt k T) n ∷ []) → r ≡ refusal (tagChecks m k T n)
+      then h = went-on (mackChecks m k T) _ tt e z h
 
-      pub tag-zero : n ≡ 0 → 7 ≡ refusal (tagChecks m (bytesOf K) T n)
+      pub tag-zero : n ≡ 0 → 7 ≡ refusal (tagChecks m k T n)
       unfolding refusal
       tag-zero h = then (rw (eq-eqb n 0 h))
 
-      pub sizes-known : Good K T
-      sizes-known = good-mack m K T (sym e ∙ z)
+      pub sizes-known : Good k T
+      sizes-known = good-mack m k T (sym e ∙ z)
 
-      module _ (h0 : n ≡ 0 → ⊥) {t : ℕ} (et : t ≡ (480 - K) / (T + 16)) where
-        tags-are : t ≡ nt (bytesOf K) T
-        tags-are = et ∙ nt-bits K T sizes-known
-
-        pub tag-beyond : t ≤ n → 7 ≡ refusal (tagChecks m (bytesOf K) T n)
+      module _ (h0 : n ≡ 0 → ⊥) {t : ℕ} (et : t ≡ nt k T) where
+        pub tag-beyond : t ≤ n → 7 ≡ refusal (tagChecks m k T n)
         unfolding refusal
-        tag-beyond h = then (rw (ne-eqb n 0 h0, ← tags-are, le-leb t n h))
+        tag-beyond h = then (rw (ne-eqb n 0 h0, ← et, le-leb t n h))
 
-        pub tag-there : n < t → 0 ≡ refusal (tagChecks m (bytesOf K) T n)
+        pub tag-there : n < t → 0 ≡ refusal (tagChecks m k T n)
         unfolding refusal
-        tag-there h = then (rw (ne-eqb n 0 h0, ← tags-are, lt-leb t n h))
+        tag-there h = then (rw (ne-eqb n 0 h0, ← et, lt-leb t n h))
 
   -- room in the message for tag n and its info
-  pub header-room : {q : ℕ} → q ≡ refusal (mackChecks m (bytesOf K) T) → q ≡ 0 → Room m T 0
+  pub header-room : {q : ℕ} → q ≡ refusal (mackChecks m k T) → q ≡ 0 → Room m T 0
   header-room e z =
-      let g = good-mack m K T (sym e ∙ z) in
-      (sixty m K T (sym e ∙ z), omega (arith, g .tag-few, zero-mul (T + 16)), g .tag-few)
+      let g = good-mack m k T (sym e ∙ z) in
+      (sixty m k T (sym e ∙ z), omega (arith, g .tag-few, zero-mul (T + 16)), g .tag-few)
 
-  pub tag-room : {q : ℕ} → q ≡ refusal (tagChecks m (bytesOf K) T n) → q ≡ 0 → Room m T n
+  pub tag-room : {q : ℕ} → q ≡ refusal (tagChecks m k T n) → q ≡ 0 → Room m T n
   tag-room e z =
-      let p = none-fails (tagChecks m (bytesOf K) T n) tt (sym e ∙ z) in
-      let g = good-sizes K T (not-false _ (p .1 .0)) (not-false _ (p .1 .1 .0)) in
-      let few : n < (480 - K) / (T + 16) = rw (nt-bits K T g) (leb-false (nt (bytesOf K) T) n (p .1 .1 .1 .1 .0)) in
-      (eqb-true (length m) 60 (not-false _ (p .0)), tag-fits K T n g few, g .tag-few)
+      let p = none-fails (tagChecks m k T n) tt (sym e ∙ z) in
+      let g = good-sizes k T (not-false _ (p .1 .0)) (not-false _ (p .1 .1 .0)) in
+      let few : n < nt k T = leb-false (nt k T) n (p .1 .1 .1 .1 .0) in
+      (eqb-true (length m) 60 (not-false _ (p .0)), tag-fits k T n g few, g .tag-few)
 
 -- num_tags
-module _ (K T : ℕ) {q : ℕ} (e : q ≡ refusal (sizeChecks (bytesOf K) T)) where
-  pub num-tags-refused : (q ≡ 0 → ⊥) → refused q ≡ answered (refusal (sizeChecks (bytesOf K) T)) (gives (nt (bytesOf K) T ∷ []))
+module _ (k T : ℕ) {q : ℕ} (e : q ≡ refusal (sizeChecks k T)) where
+  pub num-tags-refused : (q ≡ 0 → ⊥) → refused q ≡ answered (refusal (sizeChecks k T)) (gives (nt k T ∷ []))
   num-tags-refused ne = rw (← e) (refused-with q _ ne)
 
-  pub num-tags-given : {t : ℕ} → q ≡ 0 → t ≡ (480 - K) / (T + 16)
-      → gives (t ∷ []) ≡ answered (refusal (sizeChecks (bytesOf K) T)) (gives (nt (bytesOf K) T ∷ []))
-  num-tags-given z h = rw (← e) (given-with q _ z (ap (λ (x : ℕ). gives (x ∷ [])) (h ∙ nt-bits K T (good K T (sym e ∙ z)))))
+  pub num-tags-given : {t : ℕ} → q ≡ 0 → t ≡ nt k T
+      → gives (t ∷ []) ≡ answered (refusal (sizeChecks k T)) (gives (nt k T ∷ []))
+  num-tags-given z h = rw (← e) (given-with q _ z (ap (λ (x : ℕ). gives (x ∷ [])) h))
 
 -- a field that was read: the refusal is the promise's, and the place is that of tag 0, of the header's other fields, of a tag and of its info
 module _ (m : List ℕ) (w : ℕ) (cs : List Check) {q : ℕ} {r : Answer} (e : q ≡ refusal cs) where
@@ -335,44 +322,41 @@ key-half t T e =
     rw fours (omega (arith, mul-assoc t ((T + 16) / 4) 4))
 
 -- The key's answers, each from the tests that lead to it.
-module _ (m : List ℕ) (K T : ℕ) (out : List ℕ) {q : ℕ} (e : q ≡ refusal (mackChecks m (bytesOf K) T)) where
+module _ (m : List ℕ) (k T : ℕ) (out : List ℕ) {q : ℕ} (e : q ≡ refusal (mackChecks m k T)) where
   abbrev Copies : Answer → List ℕ → Type 0
-  Copies a l = _≡_ {A = Copied} (record { answer = a; bytes = l }) (keyCopied m (bytesOf K) T out)
+  Copies a l = _≡_ {A = Copied} (record { answer = a; bytes = l }) (keyCopied m k T out)
 
-  refused-key : (n : ℕ) → refusal (keyChecks m (bytesOf K) T out) ≡ n → (n ≡ 0 → ⊥) → Copies (refused n) out
+  refused-key : (n : ℕ) → refusal (keyChecks m k T out) ≡ n → (n ≡ 0 → ⊥) → Copies (refused n) out
   unfolding keyCopied answered
   refused-key n f ne = rw (f, ne-eqb n 0 ne)
 
   pub key-refused : (q ≡ 0 → ⊥) → Copies (refused q) out
-  key-refused ne = refused-key q (sym (stopped (mackChecks m (bytesOf K) T) _ e ne)) ne
+  key-refused ne = refused-key q (sym (stopped (mackChecks m k T) _ e ne)) ne
 
   module _ (z : q ≡ 0) where
-    pub key-sizes : Good K T
-    key-sizes = good-mack m K T (sym e ∙ z)
+    pub key-sizes : Good k T
+    key-sizes = good-mack m k T (sym e ∙ z)
 
     pub key-sixty : length m ≡ 60
-    key-sixty = sixty m K T (sym e ∙ z)
+    key-sixty = sixty m k T (sym e ∙ z)
 
-    key-bytes : bytesOf K ≡ K / 8
-    key-bytes = omega (arith, key-sizes .whole)
+    key-then : {r : ℕ} → r ≡ refusal (1 when not (eqb (length out) k) ∷ []) → refusal (keyChecks m k T out) ≡ r
+    key-then h = sym (went-on (mackChecks m k T) _ tt e z h)
 
-    key-then : {r : ℕ} → r ≡ refusal (1 when not (eqb (length out) (bytesOf K)) ∷ []) → refusal (keyChecks m (bytesOf K) T out) ≡ r
-    key-then h = sym (went-on (mackChecks m (bytesOf K) T) _ tt e z h)
-
-    pub key-length : (length out ≡ K / 8 → ⊥) → Copies (refused 1) out
+    pub key-length : (length out ≡ k → ⊥) → Copies (refused 1) out
     unfolding refusal
-    key-length ne = refused-key 1 (key-then (rw (ne-eqb (length out) (bytesOf K) (λ h. ne (h ∙ key-bytes))))) (λ h. omega arith)
+    key-length ne = refused-key 1 (key-then (rw (ne-eqb (length out) k ne))) (λ h. omega arith)
 
-    pub key-done : {t : ℕ} {l : List ℕ} → length out ≡ K / 8 → t ≡ (480 - K) / (T + 16) → l ≡ bytesFrom m (t * (T + 16)) (length out)
+    pub key-done : {t : ℕ} {l : List ℕ} → length out ≡ k → t ≡ nt k T → l ≡ bytesFrom m (t * (T + 16)) (length out)
         → Copies (gives []) l
     unfolding keyCopied answered refusal
     key-done h et el =
-        let none : refusal (keyChecks m (bytesOf K) T out) ≡ 0 = key-then (rw (eq-eqb (length out) (bytesOf K) (h ∙ sym key-bytes))) in
-        rw (none, el, et, h, ← nt-bits K T key-sizes, key-bytes)
+        let none : refusal (keyChecks m k T out) ≡ 0 = key-then (rw (eq-eqb (length out) k h)) in
+        rw (none, el, et, h)
 
 -- there are at most 10 tags
-pub tags-few : (K T : ℕ) → Good K T → (480 - K) / (T + 16) ≤ 10
-tags-few K T g =
-    let q : ℕ = (480 - K) / (T + 16) in
-    let a : q * 36 ≤ q * (T + 16) = mul-le-mul-left q (omega (arith, g .tag-some)) in
-    omega (arith, div-mul-le-self (480 - K) (T + 16), g .key-some)
+pub tags-few : (k T : ℕ) → Good k T → nt k T ≤ 10
+unfolding nt
+tags-few k T g =
+    let a : nt k T * 36 ≤ nt k T * (T + 16) = mul-le-mul-left (nt k T) (omega (arith, g .tag-some)) in
+    omega (arith, div-mul-le-self (480 - 8 * k) (T + 16), g .key-some)

@@ -1,6 +1,6 @@
 -- DSM-KROOT: document 01, "DSM fields". The field names are those of the Rust's comments, WNK and TOWHK with an underscore. (The ICD was not at hand.)
 -- Assumes nothing.
-use Prim.Native.Nat.{ℕ, _+_, _-_, _/_, _%_}
+use Prim.Native.Nat.{ℕ, _+_, _-_, _%_}
 use mathlib.Core.List.{List, [], _∷_, _++_}
 use mathlib.Core.Path.{_≡_}
 use mathlib.Core.Bool.{cond}
@@ -56,7 +56,7 @@ MacFunctionNumber m r = meaning-number r ≡ read (the "MF" krootLayout) m
 abbrev pub MacFunctionRead : List ℕ → MacFunctionAnswer → Type 0
 MacFunctionRead m r = meaning-mac r ≡ readName (the "MF" krootLayout) macFunctions m
 
--- in bits
+-- in bytes
 abbrev pub KeySize : List ℕ → Number → Type 0
 KeySize m r = meaning-number r ≡ readSize (the "KS" krootLayout) (size keySizes) m
 
@@ -79,7 +79,7 @@ Alpha m r = meaning-number r ≡ read (the "alpha" krootLayout) m
 
 -- "key from byte 13. With k key bytes, .."
 abbrev pub keyBytes : List ℕ → ℕ
-keyBytes m = size keySizes (value (the "KS" krootLayout) m) / 8
+keyBytes m = size keySizes (value (the "KS" krootLayout) m)
 
 abbrev pub keyChecks : List ℕ → List Check
 keyChecks m = reach (the "KS" krootLayout) m ∷ 6 when eqb (size keySizes (value (the "KS" krootLayout) m)) 0 ∷ []

@@ -2,8 +2,9 @@
 -- Assumes nothing.
 use Prim.Native.Nat.{ℕ, _+_, _*_, _%_, _≤_, _<_}
 use mathlib.Core.List.{List, [], _∷_, map}
+use mathlib.Core.Bool.{true, cond}
 use mathlib.Core.Path.{_≡_}
-use lib.Dec.{T}
+use lib.Dec.{T, eqb}
 use lib.ListN.{length, getD, drop}
 use Rattle.layouts.specs.Answer.{Answer, refused, nothing, gives, Refusal, refusals, refusal}
 use Rattle.layouts.specs.Bits.{row, the, value, gapless}
@@ -13,7 +14,7 @@ use Rattle.layouts.specs.InavPage.{inavPage}
 use Rattle.layouts.specs.DsmKroot.{krootLayout, signatureChecks, krootPart, signaturePart, paddingPart}
 use Rattle.layouts.specs.DsmPkr.{pkrLayout, count, paddingChecks, newKeyPart, paddingPart as newPaddingPart}
 use Rattle.layouts.specs.Sizes.{keySizes, tagSizes}
-use Rattle.layouts.specs.Mack.{sizesOf, bytesOf, sizeChecks, nt, tagLayout, tagInfo, keyStart, mackLayout}
+use Rattle.layouts.specs.Mack.{listed, sizesOf, sizeChecks, nt, tagLayout, tagInfo, keyStart, mackLayout}
 
 -- each layout covers its bits, every bit once: the headers a byte, the page its 30 bytes, KROOT the 13 before its key, PKR the 130 before
 -- its, and MACK its 60, whatever sizes it has that are not refused
@@ -63,20 +64,51 @@ NodesLie =
 abbrev pub TagsAtLeastFour : Type 0
 TagsAtLeastFour = (k T : ℕ) → refusal (sizeChecks k T) ≡ 0 → (4 ≤ nt k T) × (nt k T ≤ 10)
 
--- "With 40-bit tags the key always starts on a byte" (request 3). For each listed key size, which stands first in its line, and each
--- listed tag size, 20, 24, 28, 32 and 40: the bit of a byte at which the key starts. 0 is a whole byte, 4 is half a byte in.
+-- "With 40-bit tags the key always starts on a byte" (request 3). For each listed key size in bytes, which stands first in its line,
+-- and each listed tag size, 20, 24, 28, 32 and 40 bits: the bit of a byte at which the key starts. 0 is a whole byte, 4 is half a byte in.
 abbrev pub KeyStarts : Type 0
 KeyStarts =
-    map (λ (K : ℕ). K ∷ map (λ (T : ℕ). keyStart (bytesOf K) T % 8) (sizesOf tagSizes)) (sizesOf keySizes)
-    ≡ (96 ∷ 0 ∷ 0 ∷ 0 ∷ 0 ∷ 0 ∷ [])
-    ∷ (104 ∷ 0 ∷ 0 ∷ 0 ∷ 0 ∷ 0 ∷ [])
-    ∷ (112 ∷ 0 ∷ 0 ∷ 0 ∷ 0 ∷ 0 ∷ [])
-    ∷ (120 ∷ 0 ∷ 0 ∷ 0 ∷ 0 ∷ 0 ∷ [])
-    ∷ (128 ∷ 4 ∷ 0 ∷ 0 ∷ 0 ∷ 0 ∷ [])
-    ∷ (160 ∷ 0 ∷ 0 ∷ 4 ∷ 0 ∷ 0 ∷ [])
-    ∷ (192 ∷ 0 ∷ 0 ∷ 0 ∷ 0 ∷ 0 ∷ [])
-    ∷ (224 ∷ 4 ∷ 0 ∷ 4 ∷ 0 ∷ 0 ∷ [])
-    ∷ (256 ∷ 0 ∷ 0 ∷ 4 ∷ 0 ∷ 0 ∷ [])
+    map (λ (k : ℕ). k ∷ map (λ (T : ℕ). keyStart k T % 8) (sizesOf tagSizes)) (sizesOf keySizes)
+    ≡ (12 ∷ 0 ∷ 0 ∷ 0 ∷ 0 ∷ 0 ∷ [])
+    ∷ (13 ∷ 0 ∷ 0 ∷ 0 ∷ 0 ∷ 0 ∷ [])
+    ∷ (14 ∷ 0 ∷ 0 ∷ 0 ∷ 0 ∷ 0 ∷ [])
+    ∷ (15 ∷ 0 ∷ 0 ∷ 0 ∷ 0 ∷ 0 ∷ [])
+    ∷ (16 ∷ 4 ∷ 0 ∷ 0 ∷ 0 ∷ 0 ∷ [])
+    ∷ (20 ∷ 0 ∷ 0 ∷ 4 ∷ 0 ∷ 0 ∷ [])
+    ∷ (24 ∷ 0 ∷ 0 ∷ 0 ∷ 0 ∷ 0 ∷ [])
+    ∷ (28 ∷ 4 ∷ 0 ∷ 4 ∷ 0 ∷ 0 ∷ [])
+    ∷ (32 ∷ 0 ∷ 0 ∷ 4 ∷ 0 ∷ 0 ∷ [])
+    ∷ []
+
+-- Document 01 has the key sizes in bits, "96, 104, 112, 120, 128, 160, 192, 224, 256": the listed bytes are those keys
+abbrev pub keyBits : List ℕ
+keyBits = 96 ∷ 104 ∷ 112 ∷ 120 ∷ 128 ∷ 160 ∷ 192 ∷ 224 ∷ 256 ∷ []
+
+abbrev pub SameKeys : Type 0
+SameKeys = map (λ (k : ℕ). 8 * k) (sizesOf keySizes) ≡ keyBits
+
+-- "a size of 96 is then refused with 7" (request 9): so is every size in bits, with any tag size, since none is listed in bytes
+abbrev pub BitsRefused : Type 0
+BitsRefused = (K T : ℕ) → listed K keyBits ≡ true → refusal (sizeChecks K T) ≡ 7
+
+-- Key and tag size exchanged are not always refused: for each listed key size, which stands first in its line, the other numbers that
+-- are not refused as its tag size nor, the two exchanged, as a key size with it for a tag size. 12 pairs.
+abbrev pub exchangeable : ℕ → List ℕ → List ℕ
+exchangeable k [] = []
+exchangeable k (T ∷ Ts) = cond (eqb k T) (exchangeable k Ts) (cond (eqb (refusal (sizeChecks T k)) 0) (T ∷ exchangeable k Ts) (exchangeable k Ts))
+
+abbrev pub Exchanged : Type 0
+Exchanged =
+    map (λ (k : ℕ). k ∷ exchangeable k (sizesOf tagSizes)) (sizesOf keySizes)
+    ≡ (12 ∷ [])
+    ∷ (13 ∷ [])
+    ∷ (14 ∷ [])
+    ∷ (15 ∷ [])
+    ∷ (16 ∷ [])
+    ∷ (20 ∷ 24 ∷ 28 ∷ 32 ∷ [])
+    ∷ (24 ∷ 20 ∷ 28 ∷ 32 ∷ [])
+    ∷ (28 ∷ 20 ∷ 24 ∷ 32 ∷ [])
+    ∷ (32 ∷ 20 ∷ 24 ∷ 28 ∷ [])
     ∷ []
 
 -- Tag-Info is PRND x 256 + ADKD x 16 + COP, in any message

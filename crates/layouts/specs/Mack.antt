@@ -1,6 +1,6 @@
--- MACK messages: document 01, "MACK". The field names are those of the Rust's comments. The definitions go by key bytes; a promise converts from bits.
+-- MACK messages: document 01, "MACK". The field names are those of the Rust's comments. Key sizes are in bytes (request 9), tag sizes in bits: K is 8 k.
 -- Assumes nothing.
-use Prim.Native.Nat.{ℕ, zero, suc, _+_, _-_, _*_, _/_, _%_}
+use Prim.Native.Nat.{ℕ, zero, suc, _+_, _-_, _*_, _/_}
 use mathlib.Core.List.{List, [], _∷_, _++_, map}
 use mathlib.Core.Bool.{Bool, true, false, cond, not}
 use mathlib.Core.Path.{_≡_}
@@ -23,18 +23,14 @@ listed n (s ∷ ss) = cond (eqb n s) true (listed n ss)
 abbrev pub sizesOf : List Size → List ℕ
 sizesOf sizes = map (λ (s : Size). s .stands-for) sizes
 
--- the bytes of a key of that many bits; 0, which no key has, where they are not whole
-abbrev pub bytesOf : ℕ → ℕ
-bytesOf bits = cond (eqb (bits % 8) 0) (bits / 8) 0
-
 -- "60 bytes, else 1; key size K and tag size T only from the lists above, else 7; then the tag number, 7"
 abbrev pub sizeChecks : ℕ → ℕ → List Check
-sizeChecks k T = 7 when not (listed (8 * k) (sizesOf keySizes)) ∷ 7 when not (listed T (sizesOf tagSizes)) ∷ []
+sizeChecks k T = 7 when not (listed k (sizesOf keySizes)) ∷ 7 when not (listed T (sizesOf tagSizes)) ∷ []
 
 abbrev pub mackChecks : List ℕ → ℕ → ℕ → List Check
 mackChecks m k T = 1 when not (eqb (length m) 60) ∷ sizeChecks k T
 
--- "Tags nt = (480 - K) / (T + 16), rounded down."
+-- "Tags nt = (480 - K) / (T + 16), rounded down."; request 9: "(480 - 8 x key bytes) / (T + 16)"
 unfoldable pub nt : ℕ → ℕ → ℕ
 nt k T = (480 - 8 * k) / (T + 16)
 
@@ -70,46 +66,46 @@ abbrev pub readTag : Field → List ℕ → ℕ → ℕ → ℕ → Answer
 readTag f m k T n = answered (refusal (tagChecks m k T n)) (gives (value f m ∷ []))
 
 abbrev pub NumTags : ℕ → ℕ → Number → Type 0
-NumTags K T r = meaning-number r ≡ answered (refusal (sizeChecks (bytesOf K) T)) (gives (nt (bytesOf K) T ∷ []))
+NumTags k T r = meaning-number r ≡ answered (refusal (sizeChecks k T)) (gives (nt k T ∷ []))
 
 abbrev pub Tag0 : List ℕ → ℕ → ℕ → Number → Type 0
-Tag0 m K T r = meaning-number r ≡ readHeader (the "Tag0" (headerLayout T)) m (bytesOf K) T
+Tag0 m k T r = meaning-number r ≡ readHeader (the "Tag0" (headerLayout T)) m k T
 
 abbrev pub Macseq : List ℕ → ℕ → ℕ → Number → Type 0
-Macseq m K T r = meaning-number r ≡ readHeader (the "MACSEQ" (headerLayout T)) m (bytesOf K) T
+Macseq m k T r = meaning-number r ≡ readHeader (the "MACSEQ" (headerLayout T)) m k T
 
 abbrev pub Cop : List ℕ → ℕ → ℕ → Number → Type 0
-Cop m K T r = meaning-number r ≡ readHeader (the "COP" (headerLayout T)) m (bytesOf K) T
+Cop m k T r = meaning-number r ≡ readHeader (the "COP" (headerLayout T)) m k T
 
 abbrev pub Tag : List ℕ → ℕ → ℕ → ℕ → Number → Type 0
-Tag m K T n r = meaning-number r ≡ readTag (the "Tag" (tagLayout T n)) m (bytesOf K) T n
+Tag m k T n r = meaning-number r ≡ readTag (the "Tag" (tagLayout T n)) m k T n
 
 abbrev pub TagInfo : List ℕ → ℕ → ℕ → ℕ → Number → Type 0
-TagInfo m K T n r = meaning-number r ≡ readTag (tagInfo T n) m (bytesOf K) T n
+TagInfo m k T n r = meaning-number r ≡ readTag (tagInfo T n) m k T n
 
 abbrev pub PrndNumber : List ℕ → ℕ → ℕ → ℕ → Number → Type 0
-PrndNumber m K T n r = meaning-number r ≡ readTag (the "PRND" (tagLayout T n)) m (bytesOf K) T n
+PrndNumber m k T n r = meaning-number r ≡ readTag (the "PRND" (tagLayout T n)) m k T n
 
 abbrev pub AdkdNumber : List ℕ → ℕ → ℕ → ℕ → Number → Type 0
-AdkdNumber m K T n r = meaning-number r ≡ readTag (the "ADKD" (tagLayout T n)) m (bytesOf K) T n
+AdkdNumber m k T n r = meaning-number r ≡ readTag (the "ADKD" (tagLayout T n)) m k T n
 
 abbrev pub TagCop : List ℕ → ℕ → ℕ → ℕ → Number → Type 0
-TagCop m K T n r = meaning-number r ≡ readTag (the "COP" (tagLayout T n)) m (bytesOf K) T n
+TagCop m k T n r = meaning-number r ≡ readTag (the "COP" (tagLayout T n)) m k T n
 
 -- "(1..36 satellite, 255 constellation, else Reserved)": 1 and the number for a satellite, 255 for the constellation, no number for Reserved
 unfoldable pub prndName : ℕ → List ℕ
 prndName v = cond (ltb v 1) [] (cond (leb v 36) (1 ∷ v ∷ []) (cond (eqb v 255) (255 ∷ []) []))
 
 abbrev pub PrndRead : List ℕ → ℕ → ℕ → ℕ → PrndAnswer → Type 0
-PrndRead m K T n r =
+PrndRead m k T n r =
     meaning-prnd r
-    ≡ answered (refusal (tagChecks m (bytesOf K) T n)) (gives (prndName (value (the "PRND" (tagLayout T n)) m)))
+    ≡ answered (refusal (tagChecks m k T n)) (gives (prndName (value (the "PRND" (tagLayout T n)) m)))
 
 -- "(0, 4, 12, else Reserved)"
 abbrev pub AdkdRead : List ℕ → ℕ → ℕ → ℕ → AdkdAnswer → Type 0
-AdkdRead m K T n r =
+AdkdRead m k T n r =
     meaning-adkd r
-    ≡ answered (refusal (tagChecks m (bytesOf K) T n)) (gives (naming adkds (value (the "ADKD" (tagLayout T n)) m)))
+    ≡ answered (refusal (tagChecks m k T n)) (gives (naming adkds (value (the "ADKD" (tagLayout T n)) m)))
 
 -- "for the key an output of other than K/8 bytes, 1, tested last here"
 abbrev pub keyChecks : List ℕ → ℕ → ℕ → List ℕ → List Check
@@ -136,5 +132,5 @@ unfoldable pub keyCopied : List ℕ → ℕ → ℕ → List ℕ → Copied
 keyCopied m k T out = answeredWith (keyChecks m k T out) (gives []) (bytesFrom m (keyStart k T) k) out
 
 abbrev pub Key : List ℕ → ℕ → ℕ → List ℕ → Copy → List ℕ → Type 0
-Key m K T out r after =
-    _≡_ {A = Copied} (record { answer = meaning-copy r; bytes = after }) (keyCopied m (bytesOf K) T out)
+Key m k T out r after =
+    _≡_ {A = Copied} (record { answer = meaning-copy r; bytes = after }) (keyCopied m k T out)

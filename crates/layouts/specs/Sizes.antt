@@ -31,9 +31,9 @@ krootBlocks = 1 ⟶ 7 ∷ 2 ⟶ 8 ∷ 3 ⟶ 9 ∷ 4 ⟶ 10 ∷ 5 ⟶ 11 ∷ 6 �
 unfoldable pub pkrBlocks : List Size
 pkrBlocks = 7 ⟶ 13 ∷ 8 ⟶ 14 ∷ 9 ⟶ 15 ∷ 10 ⟶ 16 ∷ []
 
--- "0..8 give 96, 104, 112, 120, 128, 160, 192, 224, 256 bits"
+-- "0..8 give 96, 104, 112, 120, 128, 160, 192, 224, 256 bits"; in bytes, request 9: "12, 13, 14, 15, 16, 20, 24, 28, 32"
 unfoldable pub keySizes : List Size
-keySizes = 0 ⟶ 96 ∷ 1 ⟶ 104 ∷ 2 ⟶ 112 ∷ 3 ⟶ 120 ∷ 4 ⟶ 128 ∷ 5 ⟶ 160 ∷ 6 ⟶ 192 ∷ 7 ⟶ 224 ∷ 8 ⟶ 256 ∷ []
+keySizes = 0 ⟶ 12 ∷ 1 ⟶ 13 ∷ 2 ⟶ 14 ∷ 3 ⟶ 15 ∷ 4 ⟶ 16 ∷ 5 ⟶ 20 ∷ 6 ⟶ 24 ∷ 7 ⟶ 28 ∷ 8 ⟶ 32 ∷ []
 
 -- "5..9 give 20, 24, 28, 32, 40" bits
 unfoldable pub tagSizes : List Size

@@ -115,24 +115,7 @@ pub enum EcdsaFunctionAnswer {
 // By code; 0 is a reserved one.
 const BLOCKS: [u16; 16] = [0, 7, 8, 9, 10, 11, 12, 13, 14, 0, 0, 0, 0, 0, 0, 0];
 
-const KEY_SIZES: [u16; 16] = [
-    96,
-    104,
-    112,
-    120,
-    128,
-    160,
-    192,
-    224,
-    256,
-    0,
-    0,
-    0,
-    0,
-    0,
-    0,
-    0,
-];
+const KEY_SIZES: [u16; 16] = [12, 13, 14, 15, 16, 20, 24, 28, 32, 0, 0, 0, 0, 0, 0, 0];
 
 const TAG_SIZES: [u16; 16] = [0, 0, 0, 0, 0, 20, 24, 28, 32, 40, 0, 0, 0, 0, 0, 0];
 
@@ -199,7 +182,7 @@ pub fn mac_function(msg: &[u8]) -> MacFunctionAnswer
     }
 }
 
-// KS, as a size in bits.
+// KS, as a size in bytes.
 pub fn key_size(msg: &[u8]) -> Number
     ensures { λ r. ⌜ KeySize (now (msg .entry)) r ⌝ }
 {
@@ -247,7 +230,7 @@ pub fn kroot_shown(msg: &[u8]) -> Part
 {
     match key_size(msg) {
         Number::Refused(n) => Part::Refused(n),
-        Number::Value(size) => bits::within(msg, KROOT_BYTE, (size / 8) as usize),
+        Number::Value(size) => bits::within(msg, KROOT_BYTE, size as usize),
     }
 }
 

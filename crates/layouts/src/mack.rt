@@ -1,4 +1,4 @@
-// MACK messages: tags and the key of a TESLA chain. Key and tag sizes are in bits and come from the chain's KROOT.
+// MACK messages: tags and the key of a TESLA chain. Key sizes are in bytes, tag sizes in bits; both come from the chain's KROOT.
 // Every reader refuses 1 for a message of other than 60 bytes, then 7 for a size that no KROOT gives, then 7 for a tag number.
 use crate::answer::Copy;
 use crate::answer::Number;
@@ -20,9 +20,9 @@ ghost use Rattle.layouts.specs.inner.Code.{Room, tagEnd};
 ghost use Rattle.layouts.specs.Mack.{
   listed,
   sizesOf,
-  bytesOf,
   sizeChecks,
   mackChecks,
+  nt,
   tagChecks,
   NumTags,
   Tag0,
@@ -61,166 +61,188 @@ pub const TAG_INFO: Field = Field {
 // The bits of a message.
 pub const BITS: usize = 480;
 
-fn key_listed(key_size: usize) -> bool
-    ensures { λ r. ⌜ r ≡ listed «key_size» (sizesOf keySizes) ⌝ }
+fn key_listed(key_size_bytes: usize) -> bool
+    ensures { λ r. ⌜ r ≡ listed «key_size_bytes» (sizesOf keySizes) ⌝ }
 {
-    match key_size {
-        96 | 104 | 112 | 120 | 128 | 160 | 192 | 224 | 256 => true,
+    match key_size_bytes {
+        12 | 13 | 14 | 15 | 16 | 20 | 24 | 28 | 32 => true,
         _ => false,
     }
 }
 
-fn tag_listed(tag_size: usize) -> bool
-    ensures { λ r. ⌜ r ≡ listed «tag_size» (sizesOf tagSizes) ⌝ }
+fn tag_listed(tag_size_bits: usize) -> bool
+    ensures { λ r. ⌜ r ≡ listed «tag_size_bits» (sizesOf tagSizes) ⌝ }
 {
-    match tag_size {
+    match tag_size_bits {
         20 | 24 | 28 | 32 | 40 => true,
         _ => false,
     }
 }
 
 // The refusal number of the sizes; 0 for none. So are the next two.
-fn refuses_sizes(key_size: usize, tag_size: usize) -> u8
-    ensures { λ r. ⌜ r ≡ refusalOf (sizeChecks (bytesOf «key_size») «tag_size») ⌝ }
+fn refuses_sizes(key_size_bytes: usize, tag_size_bits: usize) -> u8
+    ensures { λ r. ⌜ r ≡ refusalOf (sizeChecks «key_size_bytes» «tag_size_bits») ⌝ }
 {
-    if !key_listed(key_size) {
+    if !key_listed(key_size_bytes) {
         return 7;
     }
-    if !tag_listed(tag_size) {
+    if !tag_listed(tag_size_bits) {
         return 7;
     }
     0
 }
 
-fn refuses(msg: &[u8], key_size: usize, tag_size: usize) -> u8
-    ensures { λ r. ⌜ r ≡ refusalOf (mackChecks (now (msg .entry)) (bytesOf «key_size») «tag_size») ⌝ }
+fn refuses(msg: &[u8], key_size_bytes: usize, tag_size_bits: usize) -> u8
+    ensures { λ r. ⌜ r ≡ refusalOf (mackChecks (now (msg .entry)) «key_size_bytes» «tag_size_bits») ⌝ }
 {
     if msg.len() != 60 {
         return 1;
     }
-    refuses_sizes(key_size, tag_size)
+    refuses_sizes(key_size_bytes, tag_size_bits)
 }
 
-fn refuses_tag(msg: &[u8], key_size: usize, tag_size: usize, n: usize) -> u8
-    ensures { λ r. ⌜ r ≡ refusalOf (tagChecks (now (msg .entry)) (bytesOf «key_size») «tag_size» n) ⌝ }
+fn refuses_tag(msg: &[u8], key_size_bytes: usize, tag_size_bits: usize, n: usize) -> u8
+    ensures { λ r. ⌜ r ≡ refusalOf (tagChecks (now (msg .entry)) «key_size_bytes» «tag_size_bits» n) ⌝ }
 {
-    let refusal = refuses(msg, key_size, tag_size);
+    let refusal = refuses(msg, key_size_bytes, tag_size_bits);
     if refusal != 0 {
         return refusal;
     }
     if n == 0 {
         return 7;
     }
-    if tags(key_size, tag_size) <= n {
+    if tags(key_size_bytes, tag_size_bits) <= n {
         return 7;
     }
     0
 }
 
 // nt, of sizes that are listed.
-fn tags(key_size: usize, tag_size: usize) -> usize
-    requires { ⌜ («key_size» ≤ 256) × («tag_size» ≤ 40) ⌝ }
-    ensures { λ r. ⌜ r ≡ (480 - «key_size») / («tag_size» + 16) ⌝ }
+fn tags(key_size_bytes: usize, tag_size_bits: usize) -> usize
+    requires { ⌜ («key_size_bytes» ≤ 32) × («tag_size_bits» ≤ 40) ⌝ }
+    ensures { λ r. ⌜ r ≡ nt «key_size_bytes» «tag_size_bits» ⌝ }
 {
-    (BITS - key_size) / (tag_size + TAG_INFO.width)
+    (BITS - 8 * key_size_bytes) / (tag_size_bits + TAG_INFO.width)
 }
 
 // nt: the tags are 0 to nt-1.
-pub fn num_tags(key_size: usize, tag_size: usize) -> Number
-    ensures { λ r. ⌜ NumTags «key_size» «tag_size» r ⌝ }
+pub fn num_tags(key_size_bytes: usize, tag_size_bits: usize) -> Number
+    ensures { λ r. ⌜ NumTags «key_size_bytes» «tag_size_bits» r ⌝ }
 {
-    let refusal = refuses_sizes(key_size, tag_size);
+    let refusal = refuses_sizes(key_size_bytes, tag_size_bits);
     if refusal != 0 {
         return Number::Refused(refusal);
     }
-    Number::Value(tags(key_size, tag_size) as u64)
+    Number::Value(tags(key_size_bytes, tag_size_bits) as u64)
 }
 
 // The bits of tag `n`, unless refused.
-fn tag_at(msg: &[u8], refusal: u8, n: usize, tag_size: usize) -> Number
-    requires { ⌜ (refusal ≡ 0 → Room (now msg) «tag_size» n) ⌝ }
-    ensures { λ r. ⌜ meaning-number r ≡ answered refusal (gives (field (now (msg .entry)) (n * («tag_size» + 16)) «tag_size» ∷ [])) ⌝ }
+fn tag_at(msg: &[u8], refusal: u8, n: usize, tag_size_bits: usize) -> Number
+    requires { ⌜ (refusal ≡ 0 → Room (now msg) «tag_size_bits» n) ⌝ }
+    ensures { λ r. ⌜ meaning-number r ≡ answered refusal (gives (field (now (msg .entry)) (n * («tag_size_bits» + 16)) «tag_size_bits» ∷ [])) ⌝ }
 {
     if refusal != 0 {
         return Number::Refused(refusal);
     }
-    Number::Value(bits::long(msg, n * (tag_size + TAG_INFO.width), tag_size))
+    Number::Value(bits::long(msg, n * (tag_size_bits + TAG_INFO.width), tag_size_bits))
 }
 
 // The field `at` behind tag `n`, unless refused.
-fn info_at(msg: &[u8], refusal: u8, n: usize, tag_size: usize, at: Field) -> Number
-    requires { ⌜ (at .first + at .width ≤ 16) × (refusal ≡ 0 → Room (now msg) «tag_size» n) ⌝ }
-    ensures { λ r. ⌜ meaning-number r ≡ answered refusal (gives (field (now (msg .entry)) (tagEnd «tag_size» n + at .first) (at .width) ∷ [])) ⌝ }
+fn info_at(msg: &[u8], refusal: u8, n: usize, tag_size_bits: usize, at: Field) -> Number
+    requires { ⌜ (at .first + at .width ≤ 16) × (refusal ≡ 0 → Room (now msg) «tag_size_bits» n) ⌝ }
+    ensures { λ r. ⌜ meaning-number r ≡ answered refusal (gives (field (now (msg .entry)) (tagEnd «tag_size_bits» n + at .first) (at .width) ∷ [])) ⌝ }
 {
     if refusal != 0 {
         return Number::Refused(refusal);
     }
     Number::Value(bits::long(
         msg,
-        n * (tag_size + TAG_INFO.width) + tag_size + at.first,
+        n * (tag_size_bits + TAG_INFO.width) + tag_size_bits + at.first,
         at.width,
     ))
 }
 
 // Tag 0.
-pub fn tag0(msg: &[u8], key_size: usize, tag_size: usize) -> Number
-    ensures { λ r. ⌜ Tag0 (now (msg .entry)) «key_size» «tag_size» r ⌝ }
+pub fn tag0(msg: &[u8], key_size_bytes: usize, tag_size_bits: usize) -> Number
+    ensures { λ r. ⌜ Tag0 (now (msg .entry)) «key_size_bytes» «tag_size_bits» r ⌝ }
 {
-    tag_at(msg, refuses(msg, key_size, tag_size), 0, tag_size)
+    tag_at(
+        msg,
+        refuses(msg, key_size_bytes, tag_size_bits),
+        0,
+        tag_size_bits,
+    )
 }
 
 // MACSEQ, 12 bits.
-pub fn macseq(msg: &[u8], key_size: usize, tag_size: usize) -> Number
-    ensures { λ r. ⌜ Macseq (now (msg .entry)) «key_size» «tag_size» r ⌝ }
-{
-    info_at(msg, refuses(msg, key_size, tag_size), 0, tag_size, MACSEQ)
-}
-
-// COP of tag 0.
-pub fn cop(msg: &[u8], key_size: usize, tag_size: usize) -> Number
-    ensures { λ r. ⌜ Cop (now (msg .entry)) «key_size» «tag_size» r ⌝ }
-{
-    info_at(msg, refuses(msg, key_size, tag_size), 0, tag_size, COP)
-}
-
-// Tag n, 1 to nt-1.
-pub fn tag(msg: &[u8], key_size: usize, tag_size: usize, n: usize) -> Number
-    ensures { λ r. ⌜ Tag (now (msg .entry)) «key_size» «tag_size» n r ⌝ }
-{
-    tag_at(msg, refuses_tag(msg, key_size, tag_size, n), n, tag_size)
-}
-
-// The info of tag n: PRND, ADKD and COP as one number of 16 bits.
-pub fn tag_info(msg: &[u8], key_size: usize, tag_size: usize, n: usize) -> Number
-    ensures { λ r. ⌜ TagInfo (now (msg .entry)) «key_size» «tag_size» n r ⌝ }
+pub fn macseq(msg: &[u8], key_size_bytes: usize, tag_size_bits: usize) -> Number
+    ensures { λ r. ⌜ Macseq (now (msg .entry)) «key_size_bytes» «tag_size_bits» r ⌝ }
 {
     info_at(
         msg,
-        refuses_tag(msg, key_size, tag_size, n),
+        refuses(msg, key_size_bytes, tag_size_bits),
+        0,
+        tag_size_bits,
+        MACSEQ,
+    )
+}
+
+// COP of tag 0.
+pub fn cop(msg: &[u8], key_size_bytes: usize, tag_size_bits: usize) -> Number
+    ensures { λ r. ⌜ Cop (now (msg .entry)) «key_size_bytes» «tag_size_bits» r ⌝ }
+{
+    info_at(
+        msg,
+        refuses(msg, key_size_bytes, tag_size_bits),
+        0,
+        tag_size_bits,
+        COP,
+    )
+}
+
+// Tag n, 1 to nt-1.
+pub fn tag(msg: &[u8], key_size_bytes: usize, tag_size_bits: usize, n: usize) -> Number
+    ensures { λ r. ⌜ Tag (now (msg .entry)) «key_size_bytes» «tag_size_bits» n r ⌝ }
+{
+    tag_at(
+        msg,
+        refuses_tag(msg, key_size_bytes, tag_size_bits, n),
         n,
-        tag_size,
+        tag_size_bits,
+    )
+}
+
+// The info of tag n: PRND, ADKD and COP as one number of 16 bits.
+pub fn tag_info(msg: &[u8], key_size_bytes: usize, tag_size_bits: usize, n: usize) -> Number
+    ensures { λ r. ⌜ TagInfo (now (msg .entry)) «key_size_bytes» «tag_size_bits» n r ⌝ }
+{
+    info_at(
+        msg,
+        refuses_tag(msg, key_size_bytes, tag_size_bits, n),
+        n,
+        tag_size_bits,
         TAG_INFO,
     )
 }
 
 // PRND of tag n, as it stands.
-pub fn prnd_number(msg: &[u8], key_size: usize, tag_size: usize, n: usize) -> Number
-    ensures { λ r. ⌜ PrndNumber (now (msg .entry)) «key_size» «tag_size» n r ⌝ }
+pub fn prnd_number(msg: &[u8], key_size_bytes: usize, tag_size_bits: usize, n: usize) -> Number
+    ensures { λ r. ⌜ PrndNumber (now (msg .entry)) «key_size_bytes» «tag_size_bits» n r ⌝ }
 {
     info_at(
         msg,
-        refuses_tag(msg, key_size, tag_size, n),
+        refuses_tag(msg, key_size_bytes, tag_size_bits, n),
         n,
-        tag_size,
+        tag_size_bits,
         PRND,
     )
 }
 
 // PRND of tag n.
-pub fn prnd(msg: &[u8], key_size: usize, tag_size: usize, n: usize) -> PrndAnswer
-    ensures { λ r. ⌜ PrndRead (now (msg .entry)) «key_size» «tag_size» n r ⌝ }
+pub fn prnd(msg: &[u8], key_size_bytes: usize, tag_size_bits: usize, n: usize) -> PrndAnswer
+    ensures { λ r. ⌜ PrndRead (now (msg .entry)) «key_size_bytes» «tag_size_bits» n r ⌝ }
 {
-    match prnd_number(msg, key_size, tag_size, n) {
+    match prnd_number(msg, key_size_bytes, tag_size_bits, n) {
         Number::Refused(n) => PrndAnswer::Refused(n),
         Number::Value(v) => {
             if v < 1 {
@@ -238,23 +260,23 @@ pub fn prnd(msg: &[u8], key_size: usize, tag_size: usize, n: usize) -> PrndAnswe
 }
 
 // ADKD of tag n, as it stands.
-pub fn adkd_number(msg: &[u8], key_size: usize, tag_size: usize, n: usize) -> Number
-    ensures { λ r. ⌜ AdkdNumber (now (msg .entry)) «key_size» «tag_size» n r ⌝ }
+pub fn adkd_number(msg: &[u8], key_size_bytes: usize, tag_size_bits: usize, n: usize) -> Number
+    ensures { λ r. ⌜ AdkdNumber (now (msg .entry)) «key_size_bytes» «tag_size_bits» n r ⌝ }
 {
     info_at(
         msg,
-        refuses_tag(msg, key_size, tag_size, n),
+        refuses_tag(msg, key_size_bytes, tag_size_bits, n),
         n,
-        tag_size,
+        tag_size_bits,
         ADKD,
     )
 }
 
 // ADKD of tag n.
-pub fn adkd(msg: &[u8], key_size: usize, tag_size: usize, n: usize) -> AdkdAnswer
-    ensures { λ r. ⌜ AdkdRead (now (msg .entry)) «key_size» «tag_size» n r ⌝ }
+pub fn adkd(msg: &[u8], key_size_bytes: usize, tag_size_bits: usize, n: usize) -> AdkdAnswer
+    ensures { λ r. ⌜ AdkdRead (now (msg .entry)) «key_size_bytes» «tag_size_bits» n r ⌝ }
 {
-    match adkd_number(msg, key_size, tag_size, n) {
+    match adkd_number(msg, key_size_bytes, tag_size_bits, n) {
         Number::Refused(n) => AdkdAnswer::Refused(n),
         Number::Value(v) => match v {
             0 => AdkdAnswer::Name(Adkd::InavCed),
@@ -266,14 +288,14 @@ pub fn adkd(msg: &[u8], key_size: usize, tag_size: usize, n: usize) -> AdkdAnswe
 }
 
 // COP of tag n.
-pub fn tag_cop(msg: &[u8], key_size: usize, tag_size: usize, n: usize) -> Number
-    ensures { λ r. ⌜ TagCop (now (msg .entry)) «key_size» «tag_size» n r ⌝ }
+pub fn tag_cop(msg: &[u8], key_size_bytes: usize, tag_size_bits: usize, n: usize) -> Number
+    ensures { λ r. ⌜ TagCop (now (msg .entry)) «key_size_bytes» «tag_size_bits» n r ⌝ }
 {
     info_at(
         msg,
-        refuses_tag(msg, key_size, tag_size, n),
+        refuses_tag(msg, key_size_bytes, tag_size_bits, n),
         n,
-        tag_size,
+        tag_size_bits,
         COP,
     )
 }
@@ -321,20 +343,20 @@ fn copy_from(msg: &[u8], start: usize, out: &mut [u8])
     copy_half_bytes(msg, start / 8, out);
 }
 
-// Copies the key into the caller's output of key_size/8 bytes; one of another length is 1, tested last. The key may start half a byte in.
-pub fn key(msg: &[u8], key_size: usize, tag_size: usize, out: &mut [u8]) -> Copy
-    ensures { λ r. ⌜ Key (now (msg .entry)) «key_size» «tag_size» (now (out .entry)) r (now (out .exit)) ⌝ }
+// Copies the key into the caller's output of key_size_bytes bytes; one of another length is 1, tested last. The key may start half a byte in.
+pub fn key(msg: &[u8], key_size_bytes: usize, tag_size_bits: usize, out: &mut [u8]) -> Copy
+    ensures { λ r. ⌜ Key (now (msg .entry)) «key_size_bytes» «tag_size_bits» (now (out .entry)) r (now (out .exit)) ⌝ }
 {
-    let refusal = refuses(msg, key_size, tag_size);
+    let refusal = refuses(msg, key_size_bytes, tag_size_bits);
     if refusal != 0 {
         return Copy::Refused(refusal);
     }
-    if out.len() != key_size / 8 {
+    if out.len() != key_size_bytes {
         return Copy::Refused(1);
     }
     copy_from(
         msg,
-        tags(key_size, tag_size) * (tag_size + TAG_INFO.width),
+        tags(key_size_bytes, tag_size_bits) * (tag_size_bits + TAG_INFO.width),
         out,
     );
     Copy::Copied

@@ -1,4 +1,4 @@
-// Functions 50 to 59: MACK. `ks` and `ts` are the sizes of key and tag, `n` the tag's number.
+// Functions 50 to 59: MACK. `ks` is the size of the key in bytes, `ts` that of a tag in bits, `n` the tag's number.
 use crate::found;
 use crate::found::Found;
 use layouts::answer::Copy;
@@ -74,9 +74,8 @@ fn key_into(msg: &[u8], ks: usize, ts: usize, out: &mut [u8], expected: &[u8]) -
 pub(crate) fn key(msg: &[u8], ks: usize, ts: usize, expected: &[u8]) -> Found {
     let mut out = FILL;
     let view: &mut [u8] = &mut out;
-    let n = ks / 8;
-    if view.len() < n {
+    if view.len() < ks {
         return key_into(msg, ks, ts, view, expected);
     }
-    key_into(msg, ks, ts, &mut view[0..n], expected)
+    key_into(msg, ks, ts, &mut view[0..ks], expected)
 }

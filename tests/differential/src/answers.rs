@@ -1,6 +1,6 @@
 //! The list of recorded answers. A record, little endian: fn u8, mlen u8, olen u8, refusal u8,
 //! a u32, b u32, c u32, v0 u64, v1 u64, v2 u64, then mlen bytes of message and olen bytes of output.
-//! A refused record has no values and no output.
+//! A refused record has no values and no output. A key's size is in bits, as the Rust has it.
 use crate::call::{Answer, Call, Function, Good, MOST_ROOM};
 
 const HEAD: usize = 40;

@@ -24,8 +24,8 @@ impl Takes {
             Takes::Header => &["header"],
             Takes::Message => &[],
             Takes::Node => &["node"],
-            Takes::Sizes | Takes::Mack | Takes::MackKey => &["key_size", "tag_size"],
-            Takes::MackTag => &["key_size", "tag_size", "tag"],
+            Takes::Sizes | Takes::Mack | Takes::MackKey => &["key_size_bytes", "tag_size_bits"],
+            Takes::MackTag => &["key_size_bytes", "tag_size_bits", "tag"],
             Takes::Entry => &["id", "message", "tag"],
             Takes::Flx => &["id", "message"],
             Takes::Id => &["id"],
@@ -80,7 +80,7 @@ functions! {
     12 kroot_chain_id: Message -> 1;
     13 kroot_hash_function: Message -> 1;
     14 kroot_mac_function: Message -> 1;
-    15 kroot_key_size: Message -> 1;
+    15 kroot_key_size_bytes: Message -> 1;
     16 kroot_tag_size: Message -> 1;
     17 kroot_mac_lookup_table: Message -> 1;
     18 kroot_wn: Message -> 1;
@@ -152,7 +152,7 @@ impl<'m> Call<'m> {
 
     pub fn right_room(function: Function, args: [u64; 3]) -> usize {
         match function.takes() {
-            Takes::MackKey => (args[0] / 8).min(32) as usize,
+            Takes::MackKey => args[0].min(32) as usize,
             Takes::Flx => 4,
             _ => 0,
         }

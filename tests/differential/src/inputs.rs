@@ -90,7 +90,7 @@ pub fn set(message: &mut [u8], place: usize, byte: u8) {
 
 /// The key bytes of a key size's code; 16 for a reserved one.
 pub fn key_bytes(code: u8) -> usize {
-    KEY_SIZES.get(usize::from(code)).map_or(16, |bits| *bits as usize / 8)
+    KEY_SIZES.get(usize::from(code)).map_or(16, |bytes| *bytes as usize)
 }
 
 /// The lengths at which an answer of KROOT changes, ascending; the last two fit P-256 and P-521.

@@ -1,5 +1,5 @@
 //! What the programs of this package share: the functions of the C boundary, the published Rust and
-//! document 01 behind one kind of call, the inputs, and the list of recorded answers.
+//! document 01 behind one kind of call, the inputs, the list of recorded answers, and the unit of a key's size.
 pub mod answers;
 pub mod call;
 pub mod fields;
@@ -7,3 +7,4 @@ pub mod inputs;
 pub mod model;
 pub mod published;
 pub mod sequence;
+pub mod units;

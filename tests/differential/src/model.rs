@@ -1,5 +1,5 @@
-//! Document 01 as a program: what each function has to answer, refusal numbers included. It shares no code
-//! with the Rust or the port. Where the paper can be read two ways (the order of PKR's checks above all) it
+//! Document 01 as a program, with a key's size in bytes as request 9 has it: what each function has to answer,
+//! refusal numbers included. It shares no code with the Rust or the port. Where the paper can be read two ways (the order of PKR's checks above all) it
 //! follows the project's readings, as the port does: such a reading is tested here, and not judged.
 use crate::call::{Answer, Call, Function as F, Good};
 
@@ -11,7 +11,9 @@ const UNKNOWN_TABLE: u32 = 8;
 const TAG_NUMBER: u32 = 9;
 const CONTRADICTION: u32 = 11;
 
-pub const KEY_SIZES: [u64; 9] = [96, 104, 112, 120, 128, 160, 192, 224, 256];
+/// In bytes (request 9).
+pub const KEY_SIZES: [u64; 9] = [12, 13, 14, 15, 16, 20, 24, 28, 32];
+/// In bits.
 pub const TAG_SIZES: [u64; 5] = [20, 24, 28, 32, 40];
 
 /// "Look-up table": ID, nt, message 0, message 1.
@@ -46,7 +48,7 @@ pub fn answer(call: &Call) -> Answer {
         F::kroot_chain_id => field(m, 8, 2).map(Good::value),
         F::kroot_hash_function => field(m, 12, 2).map(Good::value),
         F::kroot_mac_function => field(m, 14, 2).map(Good::value),
-        F::kroot_key_size => code(m, 16, 0, &KEY_SIZES).map(Good::value),
+        F::kroot_key_size_bytes => code(m, 16, 0, &KEY_SIZES).map(Good::value),
         F::kroot_tag_size => code(m, 20, 5, &TAG_SIZES).map(Good::value),
         F::kroot_mac_lookup_table => field(m, 24, 8).map(Good::value),
         F::kroot_wn => field(m, 36, 12).map(Good::value),
@@ -56,7 +58,7 @@ pub fn answer(call: &Call) -> Answer {
             let (_, many) = signature(m)?;
             Ok(Good::value(if many == 64 { 256 } else { 521 }))
         }
-        F::kroot_kroot => part(m, 13, code(m, 16, 0, &KEY_SIZES)? / 8),
+        F::kroot_kroot => part(m, 13, code(m, 16, 0, &KEY_SIZES)?),
         F::kroot_digital_signature => {
             let (first, many) = signature(m)?;
             part(m, first, many)
@@ -99,11 +101,11 @@ pub fn answer(call: &Call) -> Answer {
         F::mack_tag_cop => tag(call).and_then(|start| field(m, start + b + 12, 4)).map(Good::value),
         F::mack_key => {
             let start = mack(call)? * (b + 16);
-            if call.room as u64 != a / 8 {
+            if call.room as u64 != a {
                 return Err(LENGTH);
             }
             let mut key = [0; 32];
-            for i in 0..a / 8 {
+            for i in 0..a {
                 key[i as usize] = field(m, start + 8 * i, 8)? as u8;
             }
             Ok(Good::default().with_output(&key[..call.room]))
@@ -186,7 +188,7 @@ fn part(message: &[u8], first: u64, many: u64) -> Answer {
 /// zero): P-256 if r = 64 + ((13 - (k+64) mod 13) mod 13), P-521 if the same holds with 132 for 64,
 /// else 11."
 fn signature(message: &[u8]) -> Result<(u64, u64), u32> {
-    let k = code(message, 16, 0, &KEY_SIZES)? / 8;
+    let k = code(message, 16, 0, &KEY_SIZES)?;
     let r = (message.len() as u64).checked_sub(13 + k).ok_or(PAST_THE_END)?;
     for many in [64, 132] {
         if r == many + (13 - (k + many) % 13) % 13 {
@@ -210,11 +212,12 @@ fn new_key_size(message: &[u8]) -> Result<u64, u32> {
     }
 }
 
-fn num_tags(key_size: u64, tag_size: u64) -> Result<u64, u32> {
-    if !KEY_SIZES.contains(&key_size) || !TAG_SIZES.contains(&tag_size) {
+/// "the number of tags is (480 - 8 x key bytes) / (T + 16), and a size of 96 is then refused with 7"
+pub fn num_tags(key_size_bytes: u64, tag_size_bits: u64) -> Result<u64, u32> {
+    if !KEY_SIZES.contains(&key_size_bytes) || !TAG_SIZES.contains(&tag_size_bits) {
         return Err(RANGE);
     }
-    Ok((480 - key_size) / (tag_size + 16))
+    Ok((480 - 8 * key_size_bytes) / (tag_size_bits + 16))
 }
 
 /// The number of tags of a MACK message that is not refused.
@@ -228,11 +231,11 @@ fn mack(call: &Call) -> Result<u64, u32> {
 /// The first bit of tag n, 1 to nt - 1.
 fn tag(call: &Call) -> Result<u64, u32> {
     let nt = mack(call)?;
-    let [_, tag_size, n] = call.args;
+    let [_, tag_size_bits, n] = call.args;
     if n < 1 || n >= nt {
         return Err(RANGE);
     }
-    Ok(n * (tag_size + 16))
+    Ok(n * (tag_size_bits + 16))
 }
 
 /// ID, nt and the slots of a message number 0 or 1.

@@ -2,6 +2,7 @@
 //! drops (read here with bitvec), nt of a table ID (found by asking for tags), and read_bits (bitvec alone).
 use crate::call::{Answer, Call, Function as F, Good, Takes};
 use crate::model::{KEY_SIZES, TAG_SIZES};
+use crate::units::{answer_in_bits, call_in_bits};
 use oracle::bitfields::{
     Adkd, ChainAndPubkeyStatus, DsmHeader, DsmKroot, DsmPkr, DsmType, EcdsaFunction, HashFunction, MacFunction, Mack,
     NewPublicKeyType, NmaHeader, NmaStatus, Prnd,
@@ -11,7 +12,7 @@ use oracle::maclt::{AuthObject, MacLTError, MacLTSlot, get_flx_indices, get_macl
 use oracle::types::BitSlice;
 use std::panic::{AssertUnwindSafe, catch_unwind, set_hook};
 
-/// What the Rust did.
+/// What the Rust did, a key's size in bits.
 #[derive(Clone, Copy, PartialEq, Eq, Debug)]
 pub enum Said {
     Good(Good),
@@ -25,9 +26,9 @@ pub enum Said {
 impl Said {
     /// "Rust's `None` .. from a field reader .. becomes 6, and the table's errors become 8 and 9." A panic
     /// is some refusal; document 01 says which.
-    pub fn agrees(self, answer: Answer) -> bool {
+    pub fn agrees(self, function: F, answer: Answer) -> bool {
         match self {
-            Said::Good(good) => answer == Ok(good),
+            Said::Good(good) => answer_in_bits(function, answer) == Ok(good),
             Said::Nothing => answer == Err(6),
             Said::InvalidMaclt => answer == Err(8),
             Said::InvalidTagNumber => answer == Err(9),
@@ -59,9 +60,13 @@ pub fn judges(call: &Call) -> bool {
 
 /// What the Rust does where it is a judge.
 pub fn ask(call: &Call) -> Option<Said> {
-    judges(call).then(|| catch_unwind(AssertUnwindSafe(|| run(call))).unwrap_or(Said::Panic))
+    judges(call).then(|| {
+        let call = call_in_bits(call);
+        catch_unwind(AssertUnwindSafe(|| run(&call))).unwrap_or(Said::Panic)
+    })
 }
 
+/// A key's size in the call is in bits.
 fn run(call: &Call) -> Said {
     match call.function.takes() {
         Takes::Header => Said::Good(Good::value(header(call.function, call.args[0] as u8))),
@@ -132,7 +137,7 @@ fn kroot(call: &Call) -> Said {
             };
             raw(named, &[0, 1], bits(call.message, 14, 2))
         }
-        F::kroot_key_size => option(kroot.key_size()),
+        F::kroot_key_size_bytes => option(kroot.key_size()),
         F::kroot_tag_size => option(kroot.tag_size()),
         F::kroot_mac_lookup_table => value(kroot.mac_lookup_table()),
         F::kroot_wn => value(kroot.kroot_wn()),

@@ -1,6 +1,7 @@
-//! list FILE: the recorded answers as text, a line for each.
+//! list FILE: the recorded answers as text, a line for each, a key's size in bytes.
 use differential::answers::Record;
 use differential::call::{Call, show};
+use differential::units::record_in_bytes;
 use std::process::exit;
 
 fn main() {
@@ -20,7 +21,8 @@ fn main() {
         };
         rest = behind;
         let function = record.function;
-        let call = Call::new(function, &record.message, record.args.map(u64::from));
-        println!("{} {call} -> {}", function.number(), show(record.answer, function.results()));
+        let (args, answer) = record_in_bytes(function, record.args.map(u64::from), record.answer);
+        let call = Call::new(function, &record.message, args);
+        println!("{} {call} -> {}", function.number(), show(answer, function.results()));
     }
 }

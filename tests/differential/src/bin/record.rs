@@ -1,10 +1,11 @@
-//! record FILE: writes the list of recorded answers. Each answer is what the published Rust did; only
+//! record FILE: writes the list of recorded answers, a key's size in bits. Each answer is what the published Rust did; only
 //! the number of a refusal is document 01's, where the Rust panics. The same list at each run.
 use differential::answers::Record;
 use differential::call::{Call, Function as F, Takes};
 use differential::inputs::{Random, key_bytes, kroot_lengths, set, sizes};
 use differential::model::{self, TABLE};
 use differential::published::{self, Said};
+use differential::units::{bits as in_bits, call_in_bits};
 use std::collections::HashSet;
 use std::process::exit;
 
@@ -19,14 +20,15 @@ impl List {
         let call = Call::new(function, message, args);
         let model = model::answer(&call);
         let said = published::ask(&call).unwrap_or_else(|| fail(&format!("{call}: the Rust is no judge of it")));
-        if !said.agrees(model) {
+        if !said.agrees(function, model) {
             fail(&format!("{call}: the Rust and document 01 differ: {said:?}, {model:?}"));
         }
         let answer = match said {
             Said::Good(good) => Ok(good),
             _ => model,
         };
-        let record = Record::new(&call, answer).unwrap_or_else(|| fail(&format!("{call}: fits no record")));
+        let record =
+            Record::new(&call_in_bits(&call), answer).unwrap_or_else(|| fail(&format!("{call}: fits no record")));
         let mut bytes = Vec::new();
         record.write(&mut bytes);
         if self.seen.insert(bytes.clone()) {
@@ -93,7 +95,7 @@ fn kroot_fields(list: &mut List) {
         (F::kroot_chain_id, 8, 2),
         (F::kroot_hash_function, 12, 2),
         (F::kroot_mac_function, 14, 2),
-        (F::kroot_key_size, 16, 4),
+        (F::kroot_key_size_bytes, 16, 4),
         (F::kroot_tag_size, 20, 4),
         (F::kroot_mac_lookup_table, 24, 8),
         (F::kroot_wn, 36, 12),
@@ -230,7 +232,7 @@ fn pkr_parts(list: &mut List) {
 fn mack(list: &mut List) {
     for (key, tag) in sizes() {
         list.add(F::mack_num_tags, &[], [key, tag, 0]);
-        let nt = (480 - key) / (tag + 16);
+        let nt = model::num_tags(key, tag).unwrap();
         let message = list.random_message(60);
         for function in [F::mack_tag0, F::mack_macseq, F::mack_cop, F::mack_key] {
             list.add(function, &message, [key, tag, 0]);
@@ -246,27 +248,27 @@ fn mack(list: &mut List) {
         }
         // a message in which all bits but those of the key are set: its edges
         let mut message = [0xff; 60];
-        for bit in (nt * (tag + 16)) as usize..(nt * (tag + 16) + key) as usize {
+        for bit in (nt * (tag + 16)) as usize..(nt * (tag + 16) + in_bits(key)) as usize {
             message[bit / 8] &= !(0x80 >> (bit % 8));
         }
         list.add(F::mack_key, &message, [key, tag, 0]);
     }
     for function in F::of("mack_").filter(|f| f.takes() == Takes::MackTag) {
         for n in [0, 1, 5, 6, 7] {
-            list.add(function, &[0xff; 60], [128, 40, n]);
+            list.add(function, &[0xff; 60], [16, 40, n]);
         }
     }
-    // tag 1 of sizes 128 and 40: PRND in byte 12, ADKD and COP in byte 13
+    // tag 1 of sizes 16 and 40: PRND in byte 12, ADKD and COP in byte 13
     for prnd in [0, 1, 2, 35, 36, 37, 127, 128, 254, 255] {
         let mut message = [0; 60];
         message[12] = prnd;
-        list.add(F::mack_prnd, &message, [128, 40, 1]);
+        list.add(F::mack_prnd, &message, [16, 40, 1]);
     }
     for code in 0..16 {
         let mut message = [0; 60];
         message[13] = code << 4 | 15 - code;
         for function in [F::mack_adkd, F::mack_tag_cop, F::mack_tag_info] {
-            list.add(function, &message, [128, 40, 1]);
+            list.add(function, &message, [16, 40, 1]);
         }
     }
 }

@@ -12,7 +12,7 @@ refuses-requires c κs = search needs
 info-at-requires : tie.Need-info-at-requires
 info-at-requires c κs =
     let a = c .before .before .args in
-    (omega arith, λ z. header-room (a .msg .now) (a .key-size) (a .tag-size) 0 (c .refuses .ensures) z)
+    (omega arith, λ z. header-room (a .msg .now) (a .key-size-bytes) (a .tag-size-bits) 0 (c .refuses .ensures) z)
 
 returns : tie.Need-returns
 returns c = search read-header

@@ -8,16 +8,16 @@ use Rattle.layouts.proofs.mack.key.Statement.{statement}
 use Rattle.layouts.proofs.mack.key.Tie as tie
 
 -- the sizes are listed, and the key ends with the message at the latest
-sizes : (c : tie.Else1) → let a = c .before .before .before .before .args in Good (a .key-size) (a .tag-size)
+sizes : (c : tie.Else1) → let a = c .before .before .before .before .args in Good (a .key-size-bytes) (a .tag-size-bits)
 sizes c =
     let a = c .before .before .before .before .args in
-    key-sizes (a .msg .now) (a .key-size) (a .tag-size) (a .out .now) (c .before .refuses .ensures) (c .if1 .left)
+    key-sizes (a .msg .now) (a .key-size-bytes) (a .tag-size-bits) (a .out .now) (c .before .refuses .ensures) (c .if1 .left)
 
 fits : (c : tie.After-tags) → let a = c .before .before .before .before .before .before .args in
-    c .tags .result * (a .tag-size + 16) + a .key-size ≤ 480
+    c .tags .result * (a .tag-size-bits + 16) + 8 * a .key-size-bytes ≤ 480
 fits c =
     let a = c .before .before .before .before .before .before .args in
-    rw (c .tags .ensures) (key-fits (a .key-size) (a .tag-size) (sizes (c .before .before)))
+    rw (c .tags .ensures) (key-fits (a .key-size-bytes) (a .tag-size-bits) (sizes (c .before .before)))
 
 refuses-requires : tie.Need-refuses-requires
 refuses-requires c κs = search needs
@@ -25,13 +25,13 @@ refuses-requires c κs = search needs
 returns : tie.Need-returns
 returns c =
     let a = c .before .before .before .before .args in
-    key-refused (a .msg .now) (a .key-size) (a .tag-size) (a .out .now) (c .before .refuses .ensures) (c .if1 .taken)
+    key-refused (a .msg .now) (a .key-size-bytes) (a .tag-size-bits) (a .out .now) (c .before .refuses .ensures) (c .if1 .taken)
 
 returns-2 : tie.Need-returns-2
 returns-2 c =
     let e = c .before in
     let a = e .before .before .before .before .args in
-    key-length (a .msg .now) (a .key-size) (a .tag-size) (a .out .now) (e .before .refuses .ensures) (e .if1 .left) (c .if2 .taken)
+    key-length (a .msg .now) (a .key-size-bytes) (a .tag-size-bits) (a .out .now) (e .before .refuses .ensures) (e .if1 .left) (c .if2 .taken)
 
 tags-requires : tie.Need-tags-requires
 tags-requires c κs = let g = sizes (c .before) in (g .key-few, g .tag-few)
@@ -50,9 +50,9 @@ copy-from-requires c κs =
     omega (
       arith,
       t .before .if2 .left,
-      key-half (t .tags .result) (a .tag-size) (sizes e .tag-half),
+      key-half (t .tags .result) (a .tag-size-bits) (sizes e .tag-half),
       fits t,
-      key-sixty (a .msg .now) (a .key-size) (a .tag-size) (a .out .now) (e .before .refuses .ensures) (e .if1 .left),
+      key-sixty (a .msg .now) (a .key-size-bytes) (a .tag-size-bits) (a .out .now) (e .before .refuses .ensures) (e .if1 .left),
     )
 
 same-length : tie.Need-same-length
@@ -63,7 +63,7 @@ returns-3 c =
     let t = c .before .before .before .before .before in
     let e = t .before .before in
     let a = e .before .before .before .before .args in
-    key-done (a .msg .now) (a .key-size) (a .tag-size) (a .out .now) (e .before .refuses .ensures) (e .if1 .left) (t .before .if2 .left)
+    key-done (a .msg .now) (a .key-size-bytes) (a .tag-size-bits) (a .out .now) (e .before .refuses .ensures) (e .if1 .left) (t .before .if2 .left)
     (t .tags .ensures) (c .before .before .copy-from .ensures)
 
 pub key-spec : {M : Type 1} → statement M

@@ -15,7 +15,7 @@ returns c = search num-tags-refused
 tags-requires : tie.Need-tags-requires
 tags-requires c κs =
     let a = c .before .before .args in
-    let g = good (a .key-size) (a .tag-size) (sym (c .before .refuses-sizes .ensures) ∙ c .if1 .left) in
+    let g = good (a .key-size-bytes) (a .tag-size-bits) (sym (c .before .refuses-sizes .ensures) ∙ c .if1 .left) in
     (g .key-few, g .tag-few)
 
 returns-2 : tie.Need-returns-2

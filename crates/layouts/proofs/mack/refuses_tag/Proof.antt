@@ -17,7 +17,7 @@ returns-2 c = search tag-zero
 tags-requires : tie.Need-tags-requires
 tags-requires c κs =
     let a = c .before .before .before .before .args in
-    let g = sizes-known (a .msg .now) (a .key-size) (a .tag-size) (a .n) (c .before .before .refuses .ensures) (c .before .if1 .left) in
+    let g = sizes-known (a .msg .now) (a .key-size-bytes) (a .tag-size-bits) (a .n) (c .before .before .refuses .ensures) (c .before .if1 .left) in
     (g .key-few, g .tag-few)
 
 returns-3 : tie.Need-returns-3

@@ -11,7 +11,7 @@ refuses-tag-requires c κs = search needs
 tag-at-requires : tie.Need-tag-at-requires
 tag-at-requires c κs =
     let a = c .before .before .args in
-    λ z. tag-room (a .msg .now) (a .key-size) (a .tag-size) (a .n) (c .refuses-tag .ensures) z
+    λ z. tag-room (a .msg .now) (a .key-size-bytes) (a .tag-size-bits) (a .n) (c .refuses-tag .ensures) z
 
 returns : tie.Need-returns
 returns c = search read-tag

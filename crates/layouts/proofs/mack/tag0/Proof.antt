@@ -11,7 +11,7 @@ refuses-requires c κs = search needs
 tag-at-requires : tie.Need-tag-at-requires
 tag-at-requires c κs =
     let a = c .before .before .args in
-    λ z. header-room (a .msg .now) (a .key-size) (a .tag-size) 0 (c .refuses .ensures) z
+    λ z. header-room (a .msg .now) (a .key-size-bytes) (a .tag-size-bits) 0 (c .refuses .ensures) z
 
 returns : tie.Need-returns
 returns c = search read-tag0

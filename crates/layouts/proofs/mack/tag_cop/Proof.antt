@@ -12,7 +12,7 @@ refuses-tag-requires c κs = search needs
 info-at-requires : tie.Need-info-at-requires
 info-at-requires c κs =
     let a = c .before .before .args in
-    (omega arith, λ z. tag-room (a .msg .now) (a .key-size) (a .tag-size) (a .n) (c .refuses-tag .ensures) z)
+    (omega arith, λ z. tag-room (a .msg .now) (a .key-size-bytes) (a .tag-size-bits) (a .n) (c .refuses-tag .ensures) z)
 
 returns : tie.Need-returns
 returns c = search read-tag

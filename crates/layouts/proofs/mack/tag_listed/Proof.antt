@@ -11,7 +11,7 @@ returns c = search in-list
 
 returns-2 : tie.Need-returns-2
 unfolding tagSizes
-returns-2 c = not-in-list (c .before .args .tag-size) _ (c .match .rest .1)
+returns-2 c = not-in-list (c .before .args .tag-size-bits) _ (c .match .rest .1)
 
 pub tag-listed-spec : {M : Type 1} → statement M
 tag-listed-spec = tie.close (tie.spec returns returns-2)

@@ -1,11 +1,12 @@
 //! One call, three answers: the archive's, the Rust's and document 01's; and the smallest call that
 //! still shows a difference.
 use crate::firmware::{self, Seen};
-use differential::call::{Answer, Call, show};
+use differential::call::{Answer, Call, Function, show};
 use differential::model;
 use differential::published::{self, Said};
 
 pub struct Check {
+    pub function: Function,
     pub seen: Seen,
     pub said: Option<Said>,
     pub model: Answer,
@@ -13,13 +14,16 @@ pub struct Check {
 
 impl Check {
     pub fn new(call: &Call) -> Check {
-        Check { seen: firmware::call(call), said: published::ask(call), model: model::answer(call) }
+        let (seen, said) = (firmware::call(call), published::ask(call));
+        Check { function: call.function, seen, said, model: model::answer(call) }
     }
 
     pub fn differs(&self) -> bool {
         self.seen.strayed
             || self.seen.answer != self.model
-            || self.said.is_some_and(|said| !said.agrees(self.seen.answer) || !said.agrees(self.model))
+            || self.said.is_some_and(|said| {
+                !said.agrees(self.function, self.seen.answer) || !said.agrees(self.function, self.model)
+            })
     }
 }
 
@@ -33,6 +37,9 @@ pub fn report(call: &Call) -> String {
     let results = call.function.results();
     let said = match check.said {
         None => "not asked: these arguments cannot be said in it, or are off the lists".to_string(),
+        Some(Said::Good(good)) if call.function == Function::kroot_key_size_bytes => {
+            show(Ok(good), results) + " (in bits)"
+        }
         Some(Said::Good(good)) => show(Ok(good), results),
         Some(other) => format!("{other:?}"),
     };

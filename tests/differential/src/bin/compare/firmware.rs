@@ -29,7 +29,7 @@ shape! { message_number: (msg: *const u8, len: usize, value: *mut u64)
     kroot_chain_id osnma_kroot_chain_id
     kroot_hash_function osnma_kroot_hash_function
     kroot_mac_function osnma_kroot_mac_function
-    kroot_key_size osnma_kroot_key_size
+    kroot_key_size_bytes osnma_kroot_key_size_bytes
     kroot_tag_size osnma_kroot_tag_size
     kroot_mac_lookup_table osnma_kroot_mac_lookup_table
     kroot_wn osnma_kroot_wn
@@ -53,22 +53,22 @@ shape! { message_part: (msg: *const u8, len: usize, first: *mut u64, many: *mut 
 shape! { node: (msg: *const u8, len: usize, node: u64, first: *mut u64, many: *mut u64)
     pkr_intermediate_tree_node osnma_pkr_intermediate_tree_node
 }
-shape! { sizes: (key_size: u64, tag_size: u64, value: *mut u64)
+shape! { sizes: (key_size_bytes: u64, tag_size_bits: u64, value: *mut u64)
     mack_num_tags osnma_mack_num_tags
 }
-shape! { mack: (msg: *const u8, len: usize, key_size: u64, tag_size: u64, value: *mut u64)
+shape! { mack: (msg: *const u8, len: usize, key_size_bytes: u64, tag_size_bits: u64, value: *mut u64)
     mack_tag0 osnma_mack_tag0
     mack_macseq osnma_mack_macseq
     mack_cop osnma_mack_cop
 }
-shape! { mack_tag: (msg: *const u8, len: usize, key_size: u64, tag_size: u64, tag: u64, value: *mut u64)
+shape! { mack_tag: (msg: *const u8, len: usize, key_size_bytes: u64, tag_size_bits: u64, tag: u64, value: *mut u64)
     mack_tag osnma_mack_tag
     mack_tag_info osnma_mack_tag_info
     mack_prnd osnma_mack_prnd
     mack_adkd osnma_mack_adkd
     mack_tag_cop osnma_mack_tag_cop
 }
-shape! { mack_key: (msg: *const u8, len: usize, key_size: u64, tag_size: u64, out: *mut u8, out_len: usize)
+shape! { mack_key: (msg: *const u8, len: usize, key_size_bytes: u64, tag_size_bits: u64, out: *mut u8, out_len: usize)
     mack_key osnma_mack_key
 }
 shape! { entry: (id: u64, message: u64, tag: u64, flex: *mut u64, adkd: *mut u64, object: *mut u64)

@@ -1,9 +1,9 @@
 //! The keys of MACK messages that were copied, by the pair of sizes: how many of them start on a whole byte, and how many
 //! half a byte in. Each listed pair has to be among them.
 use crate::check::Check;
-use crate::runs::num_tags_of;
 use differential::call::{Call, Function};
 use differential::inputs::sizes;
+use differential::model::num_tags;
 use differential::published::Said;
 use std::collections::BTreeMap;
 
@@ -20,7 +20,7 @@ impl Keys {
 
     /// How many keys start at that bit of a byte, and how many pairs of sizes they are of.
     fn that_start_at(&self, bit: u64) -> (u64, usize) {
-        let these = self.0.iter().filter(|((key, tag), _)| num_tags_of(*key, *tag) * (tag + 16) % 8 == bit);
+        let these = self.0.iter().filter(|((key, tag), _)| num_tags(*key, *tag).unwrap() * (tag + 16) % 8 == bit);
         these.fold((0, 0), |(keys, pairs), (_, more)| (keys + more, pairs + 1))
     }
 

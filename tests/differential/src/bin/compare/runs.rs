@@ -2,7 +2,8 @@
 use crate::Tally;
 use differential::call::{Call, Function, Takes};
 use differential::inputs::{Random, key_bytes, kroot_lengths as boundaries, set, sizes, wide};
-use differential::model::{KEY_SIZES, TABLE, TAG_SIZES};
+use differential::model::{self, KEY_SIZES, TABLE, TAG_SIZES};
+use differential::units::bits as bits_of;
 
 /// Every byte, and numbers that are none.
 pub fn headers(tally: &mut Tally) {
@@ -103,7 +104,7 @@ pub fn single_bits(tally: &mut Tally) {
             let mut message = [ground; 60];
             message[bit / 8] ^= 0x80 >> (bit % 8);
             for (key, tag) in sizes() {
-                mack(tally, &message, key, tag, 1..num_tags_of(key, tag));
+                mack(tally, &message, key, tag, 1..tags(key, tag));
             }
         }
         for bit in 0..8 * 14 {
@@ -135,16 +136,16 @@ pub fn bits(tally: &mut Tally, random: &mut Random) {
     }
 }
 
-/// MACK: other lengths, sizes next to the lists, every tag number, and outputs that do not fit.
+/// MACK: other lengths, sizes next to the lists and in bits, every tag number, and outputs that do not fit.
 pub fn mack_refusals(tally: &mut Tally, random: &mut Random) {
     let message = random.bytes(130);
     for length in (0..=130).filter(|length| *length != 60) {
-        mack(tally, &message[..length], 128, 40, 0..8);
-        mack(tally, &message[..length], 129, 40, 0..8);
+        mack(tally, &message[..length], 16, 40, 0..8);
+        mack(tally, &message[..length], 17, 40, 0..8);
     }
     let near = |lists: &[u64]| -> Vec<u64> {
         let around =
-            lists.iter().flat_map(|size| [size - 1, size + 1, size * 2, size / 8].into_iter().chain(wide(*size)));
+            lists.iter().flat_map(|size| [size - 1, size + 1, size * 2, bits_of(*size)].into_iter().chain(wide(*size)));
         around.chain([0, 1, 479, 480, 481, u64::MAX]).collect()
     };
     for key in near(&KEY_SIZES) {
@@ -154,8 +155,8 @@ pub fn mack_refusals(tally: &mut Tally, random: &mut Random) {
         KEY_SIZES.into_iter().for_each(|key| mack(tally, &message[..60], key, tag, 0..12));
     }
     for (key, tag) in sizes() {
-        mack(tally, &message[..60], key, tag, 0..num_tags_of(key, tag) + 3);
-        for n in [0, 1, num_tags_of(key, tag)].into_iter().flat_map(wide).chain([u64::MAX]) {
+        mack(tally, &message[..60], key, tag, 0..tags(key, tag) + 3);
+        for n in [0, 1, tags(key, tag)].into_iter().flat_map(wide).chain([u64::MAX]) {
             for function in Function::of("mack_").filter(|f| f.takes() == Takes::MackTag) {
                 tally.compare(&Call::new(function, &message[..60], [key, tag, n]));
             }
@@ -164,7 +165,7 @@ pub fn mack_refusals(tally: &mut Tally, random: &mut Random) {
             for length in [59, 60] {
                 let call = Call::new(Function::mack_key, &message[..length], [key, tag, 0]);
                 tally.compare(&Call { room, ..call });
-                let call = Call::new(Function::mack_key, &message[..length], [key + 1, tag, 0]);
+                let call = Call::new(Function::mack_key, &message[..length], [bits_of(key), tag, 0]);
                 tally.compare(&Call { room, ..call });
             }
         }
@@ -180,8 +181,8 @@ pub fn random_round(tally: &mut Tally, random: &mut Random) {
     pkr(tally, &message);
     let message = random.bytes(60);
     let (key, tag) = (random.pick(&KEY_SIZES), random.pick(&TAG_SIZES));
-    mack(tally, &message, key, tag, 1..num_tags_of(key, tag));
-    let outside = random.pick(&[0, num_tags_of(key, tag), num_tags_of(key, tag) + 1]);
+    mack(tally, &message, key, tag, 1..tags(key, tag));
+    let outside = random.pick(&[0, tags(key, tag), tags(key, tag) + 1]);
     mack(tally, &message, key, tag, outside..outside + 1);
     for _ in 0..8 {
         let length = random.below(64);
@@ -196,8 +197,9 @@ pub fn random_round(tally: &mut Tally, random: &mut Random) {
     tally.compare(&Call::new(Function::get_maclt_entry, &[], args));
 }
 
-pub fn num_tags_of(key: u64, tag: u64) -> u64 {
-    (480 - key) / (tag + 16)
+/// The tags of listed sizes.
+fn tags(key: u64, tag: u64) -> u64 {
+    model::num_tags(key, tag).unwrap()
 }
 
 fn kroot(tally: &mut Tally, message: &[u8]) {
