@@ -13,7 +13,7 @@ use Rattle.layouts.specs.DsmPkr.{pkrLayout}
 use Rattle.layouts.specs.Sizes.{keySizes, tagSizes}
 use Rattle.layouts.specs.Mack.{listed, sizesOf, sizeChecks, nt, mackLayout}
 use Rattle.layouts.specs.Layouts.{Covered, KrootFollows, PkrFollows, Numbered, NodesLie, TagsAtLeastFour, KeyStarts, TagInfoIs}
-use Rattle.layouts.specs.Layouts.{keyBits, SameKeys, BitsRefused, Exchanged}
+use Rattle.layouts.specs.Layouts.{keyBits, SameKeys, NoneOnBoth, BitsRefused, Exchanged}
 use Rattle.layouts.proofs.Answers.{none-fails}
 use Rattle.layouts.proofs.Fields.{field-add}
 use Rattle.layouts.proofs.Tables.{holds-below, every}
@@ -77,7 +77,10 @@ pub same-keys : SameKeys
 unfolding keySizes
 same-keys = refl
 
--- none of the bits is listed: computed
+pub none-on-both : NoneOnBoth
+unfolding keySizes listed
+none-on-both = refl
+
 pub bits-refused : BitsRefused
 unfolding keySizes listed refusal
 bits-refused K T e = eqb→eq _ _ (of-listed (λ K. eqb (refusal (sizeChecks K T)) 7) K keyBits tt e)

@@ -2,10 +2,10 @@
 -- Assumes nothing.
 use Prim.Native.Nat.{ℕ, _+_, _*_, _%_, _≤_, _<_}
 use mathlib.Core.List.{List, [], _∷_, map}
-use mathlib.Core.Bool.{true, cond}
+use mathlib.Core.Bool.{true, false, cond}
 use mathlib.Core.Path.{_≡_}
 use lib.Dec.{T, eqb}
-use lib.ListN.{length, getD, drop}
+use lib.ListN.{length, getD, drop, replicate}
 use Rattle.layouts.specs.Answer.{Answer, refused, nothing, gives, Refusal, refusals, refusal}
 use Rattle.layouts.specs.Bits.{row, the, value, gapless}
 use Rattle.layouts.specs.NmaHeader.{nmaHeader}
@@ -87,19 +87,23 @@ keyBits = 96 ∷ 104 ∷ 112 ∷ 120 ∷ 128 ∷ 160 ∷ 192 ∷ 224 ∷ 256 ∷
 abbrev pub SameKeys : Type 0
 SameKeys = map (λ (k : ℕ). 8 * k) (sizesOf keySizes) ≡ keyBits
 
--- "a size of 96 is then refused with 7" (request 9): so is every size in bits, with any tag size, since none is listed in bytes
+-- no number of that list is on the new one
+abbrev pub NoneOnBoth : Type 0
+NoneOnBoth = map (λ (K : ℕ). listed K (sizesOf keySizes)) keyBits ≡ replicate 9 false
+
+-- "a size of 96 is then refused with 7" (request 9): so is every size in bits, with any tag size
 abbrev pub BitsRefused : Type 0
 BitsRefused = (K T : ℕ) → listed K keyBits ≡ true → refusal (sizeChecks K T) ≡ 7
 
--- Key and tag size exchanged are not always refused: for each listed key size, which stands first in its line, the other numbers that
--- are not refused as its tag size nor, the two exchanged, as a key size with it for a tag size. 12 pairs.
-abbrev pub exchangeable : ℕ → List ℕ → List ℕ
-exchangeable k [] = []
-exchangeable k (T ∷ Ts) = cond (eqb k T) (exchangeable k Ts) (cond (eqb (refusal (sizeChecks T k)) 0) (T ∷ exchangeable k Ts) (exchangeable k Ts))
+-- Key and tag size exchanged are not always refused. For each listed key size k, which stands first in its line: the listed tag sizes T
+-- other than k of which T bytes and k bits are not refused either. 12 pairs.
+abbrev pub passing : ℕ → List ℕ → List ℕ
+passing k [] = []
+passing k (T ∷ Ts) = cond (eqb T k) (passing k Ts) (cond (eqb (refusal (sizeChecks T k)) 0) (T ∷ passing k Ts) (passing k Ts))
 
 abbrev pub Exchanged : Type 0
 Exchanged =
-    map (λ (k : ℕ). k ∷ exchangeable k (sizesOf tagSizes)) (sizesOf keySizes)
+    map (λ (k : ℕ). k ∷ passing k (sizesOf tagSizes)) (sizesOf keySizes)
     ≡ (12 ∷ [])
     ∷ (13 ∷ [])
     ∷ (14 ∷ [])

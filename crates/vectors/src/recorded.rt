@@ -23,16 +23,24 @@ fn boundary_only(r: Record) -> bool {
     1 <= f && f <= 6 || 70 <= f && f <= 72
 }
 
-// The Rust counts a key's size in bits, `layouts` in bytes, and so is it counted behind this function: the size that functions 50 to 59
-// take, and the one that function 15 gives. 0, which is no key's size, where the bits are no whole bytes.
+// The bytes of a key of so many bits; 0, which is no key's size, where they are not whole.
+fn bytes_of(bits: u64) -> u64 {
+    if bits % 8 != 0 {
+        return 0;
+    }
+    bits / 8
+}
+
+// The Rust counts a key's size in bits, `layouts` in bytes. Here, and nowhere else, a record's becomes bytes: the size that functions
+// 50 to 59 take, and the one that function 15 gives.
 fn in_bytes(r: Record) -> Record {
     let f = r.function;
     if 50 <= f && f <= 59 {
-        let a = if r.a % 8 == 0 { r.a / 8 } else { 0 };
+        let a = bytes_of(r.a as u64) as usize;
         return Record { a, ..r };
     }
     if f == 15 {
-        let v0 = if r.v0 % 8 == 0 { r.v0 / 8 } else { 0 };
+        let v0 = bytes_of(r.v0);
         return Record { v0, ..r };
     }
     r
