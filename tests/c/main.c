@@ -316,6 +316,7 @@ static void mack_tags(void)
     REFUSED(7, osnma_mack_num_tags(17, 40, &a));
     REFUSED(7, osnma_mack_num_tags(16, 0, &a));
     REFUSED(7, osnma_mack_num_tags(WIDE(16), 40, &a));
+    REFUSED(7, osnma_mack_num_tags((UINT64_C(1) << 61) + 16, 40, &a)); /* eight times it is 128 */
 
     GIVES(UINT64_C(0xe37bc4f858), osnma_mack_tag0(ALL(MACK), 16, 40, &a));
     GIVES(0xe37bc, osnma_mack_tag0(ALL(MACK), 16, 20, &a));

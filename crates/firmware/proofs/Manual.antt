@@ -5,20 +5,20 @@ use mathlib.Core.Bool.{Bool, true, false, cond}
 use mathlib.Core.List.{List, [], _∷_, _++_, map}
 use Prim.Native.Nat.{ℕ, _+_, _-_, _*_, _/_, _≤_, _<_}
 use native.Mathlib.Omega.{arith}
-use lib.Dec.{ltb, eqb, eqb→eq}
+use lib.Dec.{ltb, eqb}
 use lib.ListN.{length}
 use borrow.Author.Tests.{eq-eqb, eqb-true, eqb-false, ltb-true, ltb-false}
 use Rattle.layouts.specs.Answer.{gives, Check, _when_, refusal, answered}
 use Rattle.layouts.specs.Sizes.{krootBlocks, pkrBlocks, keySizes, tagSizes}
 use Rattle.layouts.specs.DsmKroot as kroot
 use Rattle.layouts.specs.DsmPkr as pkr
-use Rattle.layouts.specs.Mack.{listed, sizesOf, sizeChecks, nt, keyChecks, keyCopied}
+use Rattle.layouts.specs.Mack.{listed, sizesOf, nt, keyChecks, keyCopied}
 use Rattle.layouts.specs.Maclt as paper
 use Rattle.layouts.proofs.Fields.{field-lt}
 use Rattle.layouts.proofs.Answers.{converse}
 use Rattle.layouts.proofs.Readers.{part-first, part-many, part-inside}
 use Rattle.layouts.proofs.Kroot.{padding-few}
-use Rattle.layouts.proofs.Tags.{of-listed}
+use Rattle.layouts.proofs.Layouts.{none-listed}
 use Rattle.firmware.specs.Outcome.{One, one, Two, two, Slot, slot, Bytes, bytes, Counted, counted}
 use Rattle.firmware.specs.Manual as manual
 
@@ -230,5 +230,5 @@ unfolding keySizes
 divided = refl
 
 pub divided-refused : manual.DividedRefused
-unfolding keySizes listed refusal
-divided-refused k T e = eqb→eq _ _ (of-listed (λ k. eqb (refusal (sizeChecks (k / 8) T)) 7) k (sizesOf keySizes) tt e)
+unfolding keySizes listed
+divided-refused = none-listed (λ k. k / 8) (sizesOf keySizes) tt

@@ -12,7 +12,8 @@ use Rattle.layouts.specs.Bits.{Field, value, reach, bytesFrom}
 use Rattle.layouts.specs.Sizes.{Size, size, krootBlocks, pkrBlocks, keySizes, tagSizes}
 use Rattle.layouts.specs.DsmKroot as kroot
 use Rattle.layouts.specs.DsmPkr as pkr
-use Rattle.layouts.specs.Mack.{sizesOf, listed, sizeChecks, nt, keyChecks, keyStart, keyCopied}
+use Rattle.layouts.specs.Mack.{sizesOf, listed, nt, keyChecks, keyStart, keyCopied}
+use Rattle.layouts.specs.Layouts.{SizeRefused}
 use Rattle.layouts.specs.Maclt as paper
 use Rattle.firmware.specs.Outcome.{One, one, Two, two, Slot, slot, Bytes, bytes, Counted, counted}
 
@@ -160,9 +161,10 @@ DsmBytes =
     map (λ (s : Size). 13 * s .stands-for) (krootBlocks ++ pkrBlocks)
     ≡ 91 ∷ 104 ∷ 117 ∷ 130 ∷ 143 ∷ 156 ∷ 169 ∷ 182 ∷ 169 ∷ 182 ∷ 195 ∷ 208 ∷ []
 
--- "Firmware that still divides it by 8 gets 1 to 4, which is refused with 7 too": the quotients, and with any tag size
+-- "Firmware that still divides it by 8 gets 1 to 4, which is refused with 7 too": the quotients, and by every function. (That a size in bits
+-- is always refused is `BitsRefused` of `layouts`, and which sizes pass exchanged is `Exchanged`.)
 abbrev pub Divided : Type 0
 Divided = map (λ (k : ℕ). k / 8) (sizesOf keySizes) ≡ 1 ∷ 1 ∷ 1 ∷ 1 ∷ 2 ∷ 2 ∷ 3 ∷ 3 ∷ 4 ∷ []
 
 abbrev pub DividedRefused : Type 0
-DividedRefused = (k T : ℕ) → listed k (sizesOf keySizes) ≡ true → refusal (sizeChecks (k / 8) T) ≡ 7
+DividedRefused = (k : ℕ) → listed k (sizesOf keySizes) ≡ true → SizeRefused (k / 8)

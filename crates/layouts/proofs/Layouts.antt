@@ -2,10 +2,11 @@
 -- Assumes nothing.
 use Prim.Native.Nat.{ℕ, _+_, _*_}
 use native.Mathlib.Omega.{arith}
-use mathlib.Core.Bool.{Bool}
+use mathlib.Core.Bool.{Bool, true, false, cond, not}
+use mathlib.Core.List.{List}
 use mathlib.Core.Path.{_≡_, refl, ap}
 use lib.Dec.{T, leb, leb→le, eqb, eqb→eq}
-use lib.ListN.{getD, drop}
+use lib.ListN.{length, getD, drop}
 use borrow.Author.Tests.{not-false}
 use Rattle.layouts.specs.Answer.{refusals, refusal}
 use Rattle.layouts.specs.Bits.{field, Field, row, gapless}
@@ -13,7 +14,7 @@ use Rattle.layouts.specs.DsmPkr.{pkrLayout}
 use Rattle.layouts.specs.Sizes.{keySizes, tagSizes}
 use Rattle.layouts.specs.Mack.{listed, sizesOf, sizeChecks, nt, mackLayout}
 use Rattle.layouts.specs.Layouts.{Covered, KrootFollows, PkrFollows, Numbered, NodesLie, TagsAtLeastFour, KeyStarts, TagInfoIs}
-use Rattle.layouts.specs.Layouts.{keyBits, SameKeys, NoneOnBoth, BitsRefused, Exchanged}
+use Rattle.layouts.specs.Layouts.{keyBits, SameKeys, NoneOnBoth, SizeRefused, BitsRefused, Exchanged}
 use Rattle.layouts.proofs.Answers.{none-fails}
 use Rattle.layouts.proofs.Fields.{field-add}
 use Rattle.layouts.proofs.Tables.{holds-below, every}
@@ -81,9 +82,32 @@ pub none-on-both : NoneOnBoth
 unfolding keySizes listed
 none-on-both = refl
 
+-- a size that is not listed is refused by every reader; so are all numbers of a list, or what is made of them, of which none is listed
+seven-of : (b : Bool) → _≡_ {A = ℕ} (cond (not b) 1 7) (cond b 7 1)
+seven-of true = refl
+seven-of false = refl
+
+size-refused : (K : ℕ) → listed K (sizesOf keySizes) ≡ false → SizeRefused K
+unfolding refusal
+size-refused K e =
+    record {
+      num-tags = λ T. rw e;
+      header = λ T m. rw e (seven-of (eqb (length m) 60));
+      tag = λ T n m. rw e (seven-of (eqb (length m) 60));
+      key = λ T m out. rw e (seven-of (eqb (length m) 60));
+    }
+
+is-not : (b : Bool) → T (not b) → b ≡ false
+is-not true t = absurd t
+is-not false t = refl
+
+pub none-listed : (f : ℕ → ℕ) (ss : List ℕ) → T (every (λ n. not (listed (f n) (sizesOf keySizes))) ss)
+    → (n : ℕ) → listed n ss ≡ true → SizeRefused (f n)
+none-listed f ss t n e = size-refused (f n) (is-not _ (of-listed (λ n. not (listed (f n) (sizesOf keySizes))) n ss t e))
+
 pub bits-refused : BitsRefused
-unfolding keySizes listed refusal
-bits-refused K T e = eqb→eq _ _ (of-listed (λ K. eqb (refusal (sizeChecks K T)) 7) K keyBits tt e)
+unfolding keySizes listed
+bits-refused = none-listed (λ K. K) keyBits tt
 
 pub exchanged : Exchanged
 unfolding keySizes tagSizes listed refusal

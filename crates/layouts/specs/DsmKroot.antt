@@ -56,11 +56,11 @@ MacFunctionNumber m r = meaning-number r ≡ read (the "MF" krootLayout) m
 abbrev pub MacFunctionRead : List ℕ → MacFunctionAnswer → Type 0
 MacFunctionRead m r = meaning-mac r ≡ readName (the "MF" krootLayout) macFunctions m
 
--- in bytes
+-- request 9: "The KROOT reader shall promise bytes"
 abbrev pub KeySize : List ℕ → Number → Type 0
 KeySize m r = meaning-number r ≡ readSize (the "KS" krootLayout) (size keySizes) m
 
--- in bits
+-- "Tag sizes stay in bits, since 20 and 28 aren't whole bytes."
 abbrev pub TagSize : List ℕ → Number → Type 0
 TagSize m r = meaning-number r ≡ readSize (the "TS" krootLayout) (size tagSizes) m
 

@@ -14,7 +14,7 @@ use Rattle.layouts.specs.InavPage.{inavPage}
 use Rattle.layouts.specs.DsmKroot.{krootLayout, signatureChecks, krootPart, signaturePart, paddingPart}
 use Rattle.layouts.specs.DsmPkr.{pkrLayout, count, paddingChecks, newKeyPart, paddingPart as newPaddingPart}
 use Rattle.layouts.specs.Sizes.{keySizes, tagSizes}
-use Rattle.layouts.specs.Mack.{listed, sizesOf, sizeChecks, nt, tagLayout, tagInfo, keyStart, mackLayout}
+use Rattle.layouts.specs.Mack.{listed, sizesOf, sizeChecks, mackChecks, tagChecks, keyChecks, nt, tagLayout, tagInfo, keyStart, mackLayout}
 
 -- each layout covers its bits, every bit once: the headers a byte, the page its 30 bytes, KROOT the 13 before its key, PKR the 130 before
 -- its, and MACK its 60, whatever sizes it has that are not refused
@@ -91,9 +91,19 @@ SameKeys = map (λ (k : ℕ). 8 * k) (sizesOf keySizes) ≡ keyBits
 abbrev pub NoneOnBoth : Type 0
 NoneOnBoth = map (λ (K : ℕ). listed K (sizesOf keySizes)) keyBits ≡ replicate 9 false
 
--- "a size of 96 is then refused with 7" (request 9): so is every size in bits, with any tag size
+-- a size that every reader of a MACK refuses, whatever else it is asked: with 7, or with 1 for other than 60 bytes, which comes before
+abbrev pub sevenOf : List ℕ → ℕ
+sevenOf m = cond (eqb (length m) 60) 7 1
+
+pub record SizeRefused (K : ℕ) : Type 0 where
+  pub num-tags : (T : ℕ) → refusal (sizeChecks K T) ≡ 7
+  pub header : (T : ℕ) (m : List ℕ) → refusal (mackChecks m K T) ≡ sevenOf m
+  pub tag : (T n : ℕ) (m : List ℕ) → refusal (tagChecks m K T n) ≡ sevenOf m
+  pub key : (T : ℕ) (m out : List ℕ) → refusal (keyChecks m K T out) ≡ sevenOf m
+
+-- "a size of 96 is then refused with 7" (request 9): so is every size in bits
 abbrev pub BitsRefused : Type 0
-BitsRefused = (K T : ℕ) → listed K keyBits ≡ true → refusal (sizeChecks K T) ≡ 7
+BitsRefused = (K : ℕ) → listed K keyBits ≡ true → SizeRefused K
 
 -- Key and tag size exchanged are not always refused. For each listed key size k, which stands first in its line: the listed tag sizes T
 -- other than k of which T bytes and k bits are not refused either. 12 pairs.
