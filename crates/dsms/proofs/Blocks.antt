@@ -71,10 +71,10 @@ module _ (s : State) (i : ℕ) where
   begun-same h e = let q : (s .came && eqb (s .id) i) ≡ true = rw (h, e) in sym (ap (λ (b : Bool). cond b s (fresh s i)) q)
 
 -- A count, by the reader of `layouts`.
-size-given : (f : Field) (g : ℕ → ℕ) (m : List ℕ) {x : Number} {n : ℕ} → meaning-number x ≡ readSize f g m → x ≡ Value n → n ≡ g (value f m)
+pub size-given : (f : Field) (g : ℕ → ℕ) (m : List ℕ) {x : Number} {n : ℕ} → meaning-number x ≡ readSize f g m → x ≡ Value n → n ≡ g (value f m)
 size-given f g m e h = first-of (answer-of _ (g (value f m) ∷ []) (rw h at e))
 
-size-none : (f : Field) (g : ℕ → ℕ) (m : List ℕ) {x : Number} {n : ℕ} → f .first + f .width ≤ 8 * length m → meaning-number x ≡ readSize f g m
+pub size-none : (f : Field) (g : ℕ → ℕ) (m : List ℕ) {x : Number} {n : ℕ} → f .first + f .width ≤ 8 * length m → meaning-number x ≡ readSize f g m
     → x ≡ Refused n → 0 ≡ g (value f m)
 size-none f g m {n = n} l e h = go (eqb (g (value f m)) 0) refl (rw h at e)
   where

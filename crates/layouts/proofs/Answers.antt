@@ -2,7 +2,7 @@
 -- Assumes nothing.
 use mathlib.Core.Path.{_≡_, refl, sym, ap, _∙_, subst}
 use mathlib.Core.List.{List, [], _∷_, _++_}
-use mathlib.Core.Bool.{Bool, true, false, cond}
+use mathlib.Core.Bool.{Bool, true, false, cond, not}
 use Prim.Native.Nat.{ℕ, zero, suc, _+_, _≤_}
 use native.Mathlib.Omega.{arith}
 use lib.ListN.{take, drop, replicate}
@@ -161,6 +161,25 @@ stopped cs ds {q = suc q} e ne = sym (refusal-stop cs ds q (sym e))
 
 pub went-on : (cs ds : List Check) {q r : ℕ} → T (numbered cs) → q ≡ refusal cs → q ≡ 0 → r ≡ refusal ds → r ≡ refusal (cs ++ ds)
 went-on cs ds t e z h = h ∙ sym (refusal-pass cs ds t (sym e ∙ z))
+
+-- A function that carries the number of the refusal on, check by check: one that fails, one that passes, none left; the tests of two numbers.
+pub stop-n : (n : ℕ) (b : Bool) (cs : List Check) → b ≡ true → n ≡ refusal (n when b ∷ cs)
+unfolding refusal
+stop-n n b cs e = rw e
+
+pub pass-n : (n : ℕ) (b : Bool) (cs : List Check) {r : ℕ} → b ≡ false → r ≡ refusal cs → r ≡ refusal (n when b ∷ cs)
+unfolding refusal
+pass-n n b cs e h = rw e h
+
+pub none-n : 0 ≡ refusal []
+unfolding refusal
+none-n = refl
+
+pub differs : (a b : ℕ) → (a ≡ b → ⊥) → not (eqb a b) ≡ true
+differs a b ne = rw (ne-eqb a b ne)
+
+pub equals : (a b : ℕ) → a ≡ b → not (eqb a b) ≡ false
+equals a b e = rw (eq-eqb a b e)
 
 -- a part that is shown, or not
 pub inside : {p : Part} {first many len : ℕ} → p ≡ Shown first many → Inside p len → first + many ≤ len

@@ -1,4 +1,5 @@
 pub mod Fields
+pub mod Packed
 pub mod Answers
 pub mod Timed
 pub mod Page

@@ -1,14 +1,16 @@
 -- A rule over all numbers below a bound, proved by one test that antt computes.
 -- Assumes nothing.
-use mathlib.Core.Path.{_≡_, sym, ap, _∙_, subst⁻¹}
+use mathlib.Core.Path.{_≡_, refl, sym, ap, _∙_, subst⁻¹}
 use mathlib.Core.Bool.{Bool, true, false, cond}
 use mathlib.Core.List.{List, [], _∷_}
-use Prim.Native.Nat.{ℕ, zero, suc, _+_, _<_}
+use Prim.Native.Nat.{ℕ, zero, suc, _+_, _≤_, _<_}
 use native.Mathlib.Nat.{zero-add, add-zero, add-suc, suc-add, le-of-suc-le-suc, not-suc-le-zero}
 use native.Mathlib.Decide.{ℕ-discrete}
+use native.Mathlib.Omega.{arith}
 use lib.Arith.{lt-of-le-ne}
-use lib.Dec.{T, eqb}
-use lib.ListN.{getD}
+use lib.Dec.{T, eqb, ltb, ltb→lt}
+use lib.ListN.{length, getD, List·getD-eq-default}
+use borrow.Author.Tests.{ltb-true, ltb-false, ne-eqb}
 use Rattle.layouts.specs.Answer.{gives, _when_, refusal, answered}
 use Rattle.layouts.specs.Bits.{Field, row, value, reach}
 use Rattle.layouts.specs.Sizes.{Size, size, readSize}
@@ -60,3 +62,28 @@ by-table start m sizes =
     let f : Field = row "" start 4 in
     ap (λ (n : ℕ). answered (refusal (reach f m ∷ 6 when eqb n 0 ∷ [])) (gives (n ∷ [])))
     (from-at (size sizes) 0 16 (value f m) (field-lt m start 4) ∙ ap (size sizes) (zero-add (value f m)))
+
+-- The same of a code that comes as a number of its own, as wide as one likes: behind sixteen the paper's table has none.
+abbrev codesBelow : ℕ → List Size → Bool
+codesBelow n [] = true
+codesBelow n (s ∷ ss) = cond (ltb (s .code) n) (codesBelow n ss) false
+
+size-beyond : (ss : List Size) (n c : ℕ) → T (codesBelow n ss) → n ≤ c → size ss c ≡ 0
+size-beyond [] n c t h = refl
+size-beyond (s ∷ ss) n c t h =
+    let l : s .code < n = ltb→lt _ _ (both-left (ltb (s .code) n) (codesBelow n ss) t) in
+    rw (ne-eqb c (s .code) (λ z. omega arith)) (size-beyond ss n c (both-right (ltb (s .code) n) (codesBelow n ss) t) h)
+
+length-from : (f : ℕ → ℕ) (i n : ℕ) → length (from f i n) ≡ n
+length-from f i zero = refl
+length-from f i (suc n) = ap suc (length-from f (suc i) n)
+
+pub by-code : (ss : List Size) (c : ℕ) → T (codesBelow 16 ss) → getD (sixteen ss) c 0 ≡ size ss c
+by-code ss c t = go (ltb c 16) refl
+  where
+    go : (x : Bool) → ltb c 16 ≡ x → getD (sixteen ss) c 0 ≡ size ss c
+    go true h = from-at (size ss) 0 16 c (ltb-true c 16 h) ∙ ap (size ss) (zero-add c)
+    go false h =
+        let g : 16 ≤ c = ltb-false c 16 h in
+        let e : length (sixteen ss) ≤ c = omega (arith, length-from (size ss) 0 16) in
+        List·getD-eq-default (sixteen ss) 0 e ∙ sym (size-beyond ss 16 c t g)

@@ -320,6 +320,7 @@ agreed =
       pkr-new-public-key-type-number = λ m. numbers _;
       pkr-new-public-key-type = λ m. by-meaning meaning-key-type back-key-type undo-key-type _;
       pkr-new-public-key-id = λ m. numbers _;
+      pkr-key-length = λ type blocks. plain _;
       pkr-key-size = λ m. numbers _;
       pkr-new-public-key-shown = λ m. parts _;
       pkr-new-public-key = λ m. plain _;

@@ -53,6 +53,7 @@ pub record Agreed : Type 0 where
   pub pkr-new-public-key-type-number : (m : List ℕ) → Agree (pkr.NewPublicKeyTypeNumber m)
   pub pkr-new-public-key-type : (m : List ℕ) → Agree (pkr.NewPublicKeyTypeRead m)
   pub pkr-new-public-key-id : (m : List ℕ) → Agree (pkr.NewPublicKeyId m)
+  pub pkr-key-length : (type blocks : ℕ) → Agree (pkr.KeyLength type blocks)
   pub pkr-key-size : (m : List ℕ) → Agree (pkr.KeySize m)
   pub pkr-new-public-key-shown : (m : List ℕ) → Agree (pkr.NewPublicKeyShown m)
   pub pkr-new-public-key : (m : List ℕ) → Agree (pkr.NewPublicKey m)

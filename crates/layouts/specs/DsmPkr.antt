@@ -64,6 +64,10 @@ keyBytes m = size (newKeySizes (count m)) (value (the "NPKT" pkrLayout) m)
 abbrev pub keyChecks : List ℕ → List Check
 keyChecks m = reach (the "NPKT" pkrLayout) m ∷ 6 when eqb (keyBytes m) 0 ∷ []
 
+-- the size of a key by its type and the number of blocks; 0 where it is reserved
+abbrev pub KeyLength : ℕ → ℕ → ℕ → Type 0
+KeyLength type blocks r = r ≡ size (newKeySizes blocks) type
+
 -- in bytes
 abbrev pub KeySize : List ℕ → Number → Type 0
 KeySize m r = meaning-number r ≡ readSize (the "NPKT" pkrLayout) (size (newKeySizes (count m))) m

@@ -4,6 +4,7 @@ pub mod Numbers
 pub mod Agree
 pub mod Gst
 pub mod Bits
+pub mod Packed
 pub mod Sizes
 pub mod Meaning
 pub mod BitReader

@@ -113,11 +113,11 @@ pub enum EcdsaFunctionAnswer {
 }
 
 // By code; 0 is a reserved one.
-const BLOCKS: [u16; 16] = [0, 7, 8, 9, 10, 11, 12, 13, 14, 0, 0, 0, 0, 0, 0, 0];
+pub const BLOCKS: [u16; 16] = [0, 7, 8, 9, 10, 11, 12, 13, 14, 0, 0, 0, 0, 0, 0, 0];
 
-const KEY_SIZES: [u16; 16] = [12, 13, 14, 15, 16, 20, 24, 28, 32, 0, 0, 0, 0, 0, 0, 0];
+pub const KEY_SIZES: [u16; 16] = [12, 13, 14, 15, 16, 20, 24, 28, 32, 0, 0, 0, 0, 0, 0, 0];
 
-const TAG_SIZES: [u16; 16] = [0, 0, 0, 0, 0, 20, 24, 28, 32, 40, 0, 0, 0, 0, 0, 0];
+pub const TAG_SIZES: [u16; 16] = [0, 0, 0, 0, 0, 20, 24, 28, 32, 40, 0, 0, 0, 0, 0, 0];
 
 // NB_DK, as a number of blocks.
 pub fn number_of_blocks(msg: &[u8]) -> Number

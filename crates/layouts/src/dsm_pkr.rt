@@ -18,6 +18,7 @@ ghost use Rattle.layouts.specs.DsmPkr.{
   NewPublicKeyTypeNumber,
   NewPublicKeyTypeRead,
   NewPublicKeyId,
+  KeyLength,
   KeySize,
   NewPublicKeyShown,
   NewPublicKey,
@@ -69,7 +70,7 @@ pub struct TreeNode {
 }
 
 // By code; 0 is a reserved one.
-const BLOCKS: [u16; 16] = [0, 0, 0, 0, 0, 0, 0, 13, 14, 15, 16, 0, 0, 0, 0, 0];
+pub const BLOCKS: [u16; 16] = [0, 0, 0, 0, 0, 0, 0, 13, 14, 15, 16, 0, 0, 0, 0, 0];
 
 // NB_DP, as a number of blocks.
 pub fn number_of_blocks(msg: &[u8]) -> Number
@@ -156,20 +157,20 @@ pub fn new_public_key_id(msg: &[u8]) -> Number
 }
 
 // The number of blocks; 0 where it is reserved.
-fn blocks(msg: &[u8]) -> u64
+fn blocks(msg: &[u8]) -> u16
     requires { ⌜ 1 ≤ length (now msg) ⌝ }
     ensures { λ r. ⌜ r ≡ size pkrBlocks (value (the "NB_DP" pkrLayout) (now (msg .entry))) ⌝ }
 {
     match number_of_blocks(msg) {
         Number::Refused(_) => 0,
-        Number::Value(n) => n,
+        Number::Value(n) => n as u16,
     }
 }
 
-// The bytes of a key of that type; 0 for a reserved type, and for an alert where the number of blocks is reserved.
-fn key_length(kind: u64, blocks: u64) -> u64
-    requires { ⌜ blocks ≤ 16 ⌝ }
-    ensures { λ r. ⌜ r ≡ size (newKeySizes blocks) kind ⌝ }
+// The bytes of a key of that type in a message of so many blocks; 0 for a reserved type, and for an alert where the number of
+// blocks is a reserved one's 0. Nothing here refuses.
+pub fn key_length(kind: u64, blocks: u16) -> u64
+    ensures { λ r. ⌜ KeyLength kind blocks r ⌝ }
 {
     match kind {
         1 => 33,
@@ -178,7 +179,7 @@ fn key_length(kind: u64, blocks: u64) -> u64
             if blocks < 10 {
                 return 0;
             }
-            13 * blocks - 130
+            13 * blocks as u64 - 130
         }
         _ => 0,
     }
@@ -246,7 +247,7 @@ pub fn padding_shown(msg: &[u8]) -> Part
                 return Part::Refused(6);
             }
             let start = NPK_BYTE as u64 + size;
-            let end = 13 * n;
+            let end = 13 * n as u64;
             if end < start {
                 return Part::Refused(11);
             }

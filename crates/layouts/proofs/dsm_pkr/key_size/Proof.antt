@@ -1,7 +1,7 @@
 -- `dsm_pkr::key_size`: the size, after the type.
 -- Assumes nothing.
 use native.Mathlib.Omega.{arith}
-use Rattle.layouts.proofs.Pkr.{blocks-few, type-read, key-size-given, key-size-reserved}
+use Rattle.layouts.proofs.Pkr.{type-read, key-size-given, key-size-reserved}
 use Rattle.layouts.proofs.Readers.{size-refused}
 use borrow.Author.Needs.{needs}
 use Rattle.layouts.proofs.dsm_pkr.key_size.Statement.{statement}
@@ -22,7 +22,7 @@ blocks-requires c κs =
     omega (arith, type-read (t .before .before .args .msg .now) (t .new-public-key-type-number .ensures) (c .before .kind .given .1))
 
 key-length-requires : tie.Need-key-length-requires
-key-length-requires c κs = omega (arith, c .blocks2 .ensures, blocks-few (c .before .before .before .before .before .before .args .msg .now))
+key-length-requires c κs = search needs
 
 returns : tie.Need-returns
 returns c = search key-size-reserved

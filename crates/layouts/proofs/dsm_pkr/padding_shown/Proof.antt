@@ -30,6 +30,9 @@ add-start c =
     let m = k .before .before .args .msg .now in
     omega (arith, key-long m (k .key-size .ensures) (s .before .size .given .1), key-few m)
 
+cast-end : tie.Need-cast-end
+cast-end c = search needs
+
 mul-end : tie.Need-mul-end
 mul-end c = omega (arith, c .before .blocks2 .ensures, blocks-few (c .before .before .before .before .before .before .before .args .msg .now))
 
@@ -55,6 +58,7 @@ padding-shown-spec =
     blocks-requires
     returns
     add-start
+    cast-end
     mul-end
     returns-2
     within-requires

@@ -1,0 +1,8 @@
+pub mod Agreed
+pub mod ReadBack
+pub mod Sending
+pub mod Shapes
+pub mod Write
+pub mod WriteBack
+pub mod WritePromises
+pub mod inner
