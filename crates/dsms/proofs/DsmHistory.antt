@@ -40,7 +40,7 @@ answer-back : (a b : DsmAnswer) → meaning-dsm a ≡ meaning-dsm b → a ≡ b
 answer-back a b e = sym (undo-dsm a) ∙ ap back-dsm e ∙ undo-dsm b
 
 -- Either function gives what the definition gives.
-feeding-is : {c c′ : CollectDsm} {x x′ : List ℕ} {d : Call} {a : DsmAnswer} → Feeding c x d a c′ x′ → gave a c′ x′ ≡ fedTo (state c x) d
+pub feeding-is : {c c′ : CollectDsm} {x x′ : List ℕ} {d : Call} {a : DsmAnswer} → Feeding c x d a c′ x′ → gave a c′ x′ ≡ fedTo (state c x) d
 feeding-is (by-value d r x′ e) = e
 feeding-is (in-place d a c′ x′ e) = e
 
@@ -75,7 +75,7 @@ misfit-view c x w =
     }
 
 -- One call more.
-after-more : (s : State) (cs : List Call) (d : Call) → after s (cs ++ (d ∷ [])) ≡ fedTo (after s cs) d .state
+pub after-more : (s : State) (cs : List Call) (d : Call) → after s (cs ++ (d ∷ [])) ≡ fedTo (after s cs) d .state
 after-more s [] d = refl
 after-more s (c ∷ cs) d = after-more (fedTo s c .state) cs d
 

@@ -4,7 +4,8 @@ use mathlib.Core.Path.{_≡_, refl, sym, ap, _∙_}
 use mathlib.Core.List.{List, [], _∷_, _++_, map}
 use mathlib.Core.Bool.{Bool, true, false, cond, not, _&&_, _||_}
 use Prim.Native.Nat.{ℕ, zero, suc, _+_, _-_, _*_, _/_, _%_, _^_, _≤_, _<_}
-use native.Mathlib.Nat.{zero-add, div-one, lt-of-lt-of-le, add-zero, add-suc, add-assoc, mul-assoc, mul-one, pow-zero, pow-suc, mod-one, one-mul, mod-eq-of-lt, le-of-suc-le-suc, not-suc-le-zero}
+use native.Mathlib.Nat.{zero-add, div-one, lt-of-lt-of-le, add-zero, add-suc, add-assoc, mul-assoc, mul-one, pow-zero, pow-suc, mod-one, one-mul}
+use native.Mathlib.Nat.{mod-eq-of-lt, le-of-suc-le-suc, not-suc-le-zero}
 use native.Mathlib.Numerals.{add-one}
 use native.Mathlib.Omega.{arith}
 use lib.Dec.{T, ltb, eqb, eqb→eq}
@@ -168,7 +169,8 @@ rows-say l n from (f ∷ fs) to (v ∷ vs) t e long says =
     ∙ ap (λ (x : ℕ). packedOn (n * 2 ^ w + v) fs vs / 2 ^ x % 2 ^ w) place
     ∙ ap (λ (x : ℕ). x % 2 ^ w) (packed-high (n * 2 ^ w + v) (from + w) fs to vs g (o .1))
     ∙ low n w (not-wide v (2 ^ w) (o .0)) in
-    let rest : map (λ (f : Field). value f l) fs ≡ vs = rows-say l (n * 2 ^ w + v) (from + w) fs to vs g (o .1) (omega arith) (λ s x a b. says s x (omega arith) b) in
+    let rest : map (λ (f : Field). value f l) fs ≡ vs =
+    rows-say l (n * 2 ^ w + v) (from + w) fs to vs g (o .1) (omega arith) (λ s x a b. says s x (omega arith) b) in
     rw (rest, ← first, here)
 
 -- each row is there

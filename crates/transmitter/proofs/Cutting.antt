@@ -2,13 +2,13 @@
 -- Assumes nothing.
 use mathlib.Core.Path.{_≡_, refl, sym, ap, _∙_}
 use mathlib.Core.List.{List, [], _∷_}
-use mathlib.Core.Bool.{Bool, true, false, cond, not}
+use mathlib.Core.Bool.{not}
 use Prim.Native.Nat.{ℕ, zero, suc, _+_, _*_, _≤_, _<_}
 use native.Mathlib.Omega.{arith}
-use lib.Dec.{ltb, eqb, eqb·suc-zero}
+use lib.Dec.{eqb, eqb·suc-zero}
 use lib.ListN.{length, take, drop, replicate}
 use borrow.Author.Tests.{ltb-false, eqb-true, lt-ltb, le-ltb, eq-eqb, ne-eqb, not-false}
-use Rattle.layouts.specs.Answer.{refused, gives, _when_, refusal, answered, Copied, answeredWith}
+use Rattle.layouts.specs.Answer.{refused, gives, refusal, answered, Copied, answeredWith}
 use Rattle.layouts.specs.Bits.{the}
 use Rattle.layouts.specs.Packed.{packedOn}
 use Rattle.layouts.specs.Sizes.{size, krootBlocks, pkrBlocks, readSize}

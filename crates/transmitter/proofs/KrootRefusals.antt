@@ -1,15 +1,15 @@
 -- The refusal numbers of the KROOT writer, one law for each `return`, and the code's tables.
 -- Assumes nothing.
-use mathlib.Core.Path.{_≡_, refl, sym, ap, _∙_}
+use mathlib.Core.Path.{_≡_, sym, _∙_}
 use mathlib.Core.List.{List}
 use mathlib.Core.Bool.{Bool, true, false, not, _||_}
 use Prim.Native.Nat.{ℕ, _+_, _*_, _≤_, _<_}
-use lib.Dec.{T, ltb, eqb}
+use lib.Dec.{eqb}
 use lib.ListN.{length, getD, drop}
 use borrow.Author.Tests.{lt-ltb, le-ltb, eq-eqb, ne-eqb}
-use Rattle.layouts.specs.Answer.{_when_, refusal}
+use Rattle.layouts.specs.Answer.{refusal}
 use Rattle.layouts.specs.Packed.{tooWide}
-use Rattle.layouts.specs.Sizes.{Size, size, krootBlocks, pkrBlocks, keySizes, tagSizes}
+use Rattle.layouts.specs.Sizes.{size, krootBlocks, pkrBlocks, keySizes, tagSizes}
 use Rattle.layouts.specs.DsmKroot.{krootLayout}
 use Rattle.layouts.proofs.Answers.{stop-n, pass-n, none-n, differs, equals}
 use Rattle.layouts.proofs.Tables.{sixteen, by-code}
@@ -83,21 +83,24 @@ module _ (memory : List ℕ) (id : ℕ) (v : KrootValues) (key signature padding
               kroot-tag-size h = go₆ (stop-n 6 _ _ (eq-eqb (size tagSizes (v .ts)) 0 (sym e₇ ∙ h)))
 
               module _ (h₇ : t ≡ 0 → ⊥) where
-                go₇ : {r : ℕ} → r ≡ refusal (drop 7 (krootChecks memory id v key signature padding)) → r ≡ refusal (krootChecks memory id v key signature padding)
+                go₇ : {r : ℕ} → r ≡ refusal (drop 7 (krootChecks memory id v key signature padding))
+                    → r ≡ refusal (krootChecks memory id v key signature padding)
                 go₇ h = go₆ (pass-n 6 _ _ (ne-eqb (size tagSizes (v .ts)) 0 (λ z. h₇ (e₇ ∙ z))) h)
 
                 pub kroot-key : (length key ≡ k → ⊥) → 11 ≡ refusal (krootChecks memory id v key signature padding)
                 kroot-key h = go₇ (stop-n 11 _ _ (differs (length key) (size keySizes (v .ks)) (λ z. h (z ∙ sym e₆))))
 
                 module _ (h₈ : length key ≡ k) where
-                  go₈ : {r : ℕ} → r ≡ refusal (drop 8 (krootChecks memory id v key signature padding)) → r ≡ refusal (krootChecks memory id v key signature padding)
+                  go₈ : {r : ℕ} → r ≡ refusal (drop 8 (krootChecks memory id v key signature padding))
+                      → r ≡ refusal (krootChecks memory id v key signature padding)
                   go₈ h = go₇ (pass-n 11 _ _ (equals (length key) (size keySizes (v .ks)) (h₈ ∙ e₆)) h)
 
                   pub kroot-padding : 12 < length padding → 11 ≡ refusal (krootChecks memory id v key signature padding)
                   kroot-padding h = go₈ (stop-n 11 _ _ (lt-ltb 12 (length padding) h))
 
                   module _ (h₉ : length padding ≤ 12) where
-                    pub kroot-unfilled : (13 + k + length signature + length padding ≡ 13 * n → ⊥) → 11 ≡ refusal (krootChecks memory id v key signature padding)
+                    pub kroot-unfilled : (13 + k + length signature + length padding ≡ 13 * n → ⊥)
+                        → 11 ≡ refusal (krootChecks memory id v key signature padding)
                     kroot-unfilled h =
                         go₈ (pass-n 11 _ _ (le-ltb 12 (length padding) h₉)
                         (stop-n 11 _ _ (differs (13 + length key + length signature + length padding) (13 * size krootBlocks (v .nb-dk)) (λ z. h (rw (← h₈, e₅) z)))))

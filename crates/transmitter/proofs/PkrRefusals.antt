@@ -1,17 +1,17 @@
 -- The refusal numbers of the PKR writer, one law for each `return`.
 -- Assumes nothing.
 use mathlib.Core.Path.{_≡_, refl, sym, ap, _∙_}
-use mathlib.Core.List.{List, [], _∷_, _++_}
-use mathlib.Core.Bool.{Bool, true, false, cond, not, _||_}
-use Prim.Native.Nat.{ℕ, zero, suc, _+_, _-_, _*_, _^_, _≤_, _<_}
+use mathlib.Core.List.{List, [], _∷_}
+use mathlib.Core.Bool.{Bool, true, false, cond}
+use Prim.Native.Nat.{ℕ, _+_, _-_, _*_, _≤_, _<_}
 use native.Mathlib.Omega.{arith}
-use lib.Dec.{ltb, eqb}
+use lib.Dec.{eqb}
 use lib.ListN.{length, drop}
-use borrow.Author.Tests.{lt-ltb, le-ltb, eq-eqb, ne-eqb, not-true, not-false}
-use Rattle.layouts.specs.Answer.{_when_, refusal}
+use borrow.Author.Tests.{lt-ltb, le-ltb, eq-eqb, ne-eqb}
+use Rattle.layouts.specs.Answer.{refusal}
 use Rattle.layouts.specs.Bits.{the}
 use Rattle.layouts.specs.Sizes.{size, pkrBlocks, keyTypes, naming}
-use Rattle.layouts.specs.DsmPkr.{pkrLayout, newKeySizes}
+use Rattle.layouts.specs.DsmPkr.{newKeySizes}
 use Rattle.layouts.specs.Packed.{tooWide}
 use Rattle.transmitter.specs.Write.{pkrFirst, pkrSecond, PkrValues, pkrChecks}
 use Rattle.layouts.proofs.Answers.{stop-n, pass-n, none-n, differs, equals}

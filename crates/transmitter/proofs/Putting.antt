@@ -2,20 +2,23 @@
 -- Assumes nothing.
 use mathlib.Core.Path.{_≡_, refl, sym, ap, _∙_}
 use mathlib.Core.List.{List, [], _∷_, _++_}
-use mathlib.Core.Bool.{Bool, true, false, cond, not, _||_}
-use Prim.Native.Nat.{ℕ, zero, suc, _+_, _-_, _*_, _/_, _%_, _^_, _≤_, _<_}
+use mathlib.Core.Bool.{Bool, true, false, cond, not}
+use Prim.Native.Nat.{ℕ, zero, suc, _+_, _-_, _*_, _^_, _≤_, _<_}
+use native.Mathlib.Nat.{le-of-suc-le-suc, not-suc-le-zero}
 use native.Mathlib.Omega.{arith}
-use lib.Dec.{ltb, leb, eqb, eqb·suc-zero}
-use lib.ListN.{length, take, drop, length-append}
+use lib.Dec.{ltb, eqb, eqb·suc-zero}
+use lib.ListN.{length, getD, take, drop, length-append}
 use lib.Seq.{take-at, drop-append-add, drop-drop}
 use borrow.Author.Tests.{ltb-false, eqb-true, lt-ltb, le-ltb, not-false}
-use Rattle.layouts.specs.Answer.{Answer, refused, gives, Check, _when_, refusal}
-use Rattle.layouts.specs.Sizes.{size, krootBlocks, pkrBlocks, keySizes, keyTypes, naming}
+use Rattle.layouts.specs.Answer.{refused, gives, Check, refusal}
+use Rattle.layouts.specs.Bits.{Field, row}
+use Rattle.layouts.specs.Sizes.{size, krootBlocks, pkrBlocks}
 use Rattle.layouts.specs.DsmHeader.{dsmType}
 use Rattle.layouts.specs.DsmKroot.{krootLayout}
 use Rattle.layouts.proofs.Answers.{Passed, none-fails}
 use Rattle.layouts.specs.Packed.{tooWide, bytesOf, packedOn}
-use Rattle.transmitter.specs.Write.{Written, written, KrootValues, krootNumbers, krootMessage, krootChecks, writeKroot, pkrFirst, pkrSecond, PkrValues, pkrMessage, pkrChecks, writePkr}
+use Rattle.transmitter.specs.Write.{Written, written, KrootValues, krootNumbers, krootMessage, krootChecks, writeKroot, pkrFirst, pkrSecond}
+use Rattle.transmitter.specs.Write.{PkrValues, pkrMessage, pkrChecks, writePkr}
 use Rattle.transmitter.specs.WritePromises.{krootOf, pkrOf}
 use Rattle.transmitter.specs.inner.Parts.{putAt, over, Narrow, Halves}
 use Rattle.transmitter.specs.declared.kroot.KrootValues.{KrootValues as KrootNumbers}
@@ -41,8 +44,10 @@ head-apart n h l e b =
     more (omega arith) (more (omega arith) (more (omega arith) (more (omega arith) (more (omega arith) (more (omega arith) (more (omega arith)
     (more (omega arith) (more (omega arith) (more (omega arith) (more (omega arith) (more (omega arith) (more (omega arith) refl))))))))))))
 
-pub kroot-put : (v : KrootValues) (key signature padding d : List ℕ) (h : ℕ) {a b c e f : List ℕ} {k s : ℕ} → packedOn 0 krootLayout (krootNumbers v) ≡ h * 281474976710656 + v .alpha → v .alpha < 281474976710656
-    → a ≡ putAt d 0 (bytesOf 7 h) → b ≡ putAt a 7 (bytesOf 6 (v .alpha)) → c ≡ putAt b 13 key → e ≡ putAt c k signature → k ≡ 13 + length key → f ≡ putAt e s padding → s ≡ k + length signature
+pub kroot-put : (v : KrootValues) (key signature padding d : List ℕ) (h : ℕ) {a b c e f : List ℕ} {k s : ℕ}
+    → packedOn 0 krootLayout (krootNumbers v) ≡ h * 281474976710656 + v .alpha → v .alpha < 281474976710656
+    → a ≡ putAt d 0 (bytesOf 7 h) → b ≡ putAt a 7 (bytesOf 6 (v .alpha)) → c ≡ putAt b 13 key → e ≡ putAt c k signature → k ≡ 13 + length key
+    → f ≡ putAt e s padding → s ≡ k + length signature
     → f ≡ over (krootMessage v key signature padding) d
 unfolding krootMessage
 kroot-put v key signature padding d h {k = k} {s = s} n l ea eb ec ee ek ef es =
@@ -66,7 +71,8 @@ unfolding written
 write-refused checks memory message id {q = zero} e ne = absurd (ne refl)
 write-refused checks memory message id {q = suc q} e ne = rw (← e, eqb·suc-zero)
 
-pub write-done : (checks : List Check) (memory message : List ℕ) (id t : ℕ) {q n : ℕ} {after : List ℕ} → q ≡ refusal checks → q ≡ 0 → after ≡ over message memory → dsmType id ≡ t → n ≡ length message
+pub write-done : (checks : List Check) (memory message : List ℕ) (id t : ℕ) {q n : ℕ} {after : List ℕ} → q ≡ refusal checks → q ≡ 0
+    → after ≡ over message memory → dsmType id ≡ t → n ≡ length message
     → _≡_ {A = Written} (record { memory = after; answer = gives (id ∷ t ∷ n ∷ []) }) (written checks memory message id)
 write-done checks memory message id t e z a d l =
     rw (a, ← d, l) (sym (written-is checks memory message id (sym e ∙ z)))
@@ -86,25 +92,32 @@ kroot-blocks-few n = go (eqb n 1) (eqb n 2) (eqb n 3) (eqb n 4) (eqb n 5) (eqb n
     go false false false false false false false true = omega arith
     go false false false false false false false false = omega arith
 
--- not too wide
-step : (v w : ℕ) (b : Bool) → (not (ltb v w) || b) ≡ false → (v < w) × (b ≡ false)
-step v w b e = let o = or-false (not (ltb v w)) b e in (not-wide v w (o .0), o .1)
+-- not too wide: each value fits its row
+pub fits-at : (fs : List Field) (vs : List ℕ) (i : ℕ) → i < length fs → i < length vs → tooWide fs vs ≡ false → getD vs i 0 < 2 ^ getD fs i (row "" 0 0) .width
+unfolding tooWide
+fits-at [] vs i h l e = absurd (not-suc-le-zero h)
+fits-at (f ∷ fs) [] i h l e = absurd (not-suc-le-zero l)
+fits-at (f ∷ fs) (v ∷ vs) zero h l e = not-wide v (2 ^ f .width) (or-false (not (ltb v (2 ^ f .width))) (tooWide fs vs) e .0)
+fits-at (f ∷ fs) (v ∷ vs) (suc i) h l e =
+    fits-at fs vs i (le-of-suc-le-suc h) (le-of-suc-le-suc l) (or-false (not (ltb v (2 ^ f .width))) (tooWide fs vs) e .1)
 
 pub narrow : (v : KrootNumbers) → tooWide krootLayout (krootNumbers (krootOf v)) ≡ false → Narrow v
-unfolding tooWide
 narrow v e =
-    let a = step (v .«nb_dk») 16 _ e in
-    let b = step (v .pkid) 16 _ (a .1) in
-    let c = step (v .cidkr) 4 _ (b .1) in
-    let d = step (v .hf) 4 _ (c .1) in
-    let f = step (v .mf) 4 _ (d .1) in
-    let g = step (v .ks) 16 _ (f .1) in
-    let h = step (v .ts) 16 _ (g .1) in
-    let i = step (v .maclt) 256 _ (h .1) in
-    let j = step (v .«wn_k») 4096 _ (i .1) in
-    let k = step (v .«towh_k») 256 _ (j .1) in
-    let l = step (v .alpha) 281474976710656 _ (k .1) in
-    record { nb-dk = a .0; pkid = b .0; cidkr = c .0; hf = d .0; mf = f .0; ks = g .0; ts = h .0; maclt = i .0; wn-k = j .0; towh-k = k .0; alpha = l .0 }
+    let at : (i : ℕ) → i < 13 → getD (krootNumbers (krootOf v)) i 0 < 2 ^ getD krootLayout i (row "" 0 0) .width =
+    λ i h. fits-at krootLayout (krootNumbers (krootOf v)) i h h e in
+    record {
+      nb-dk = at 0 (omega arith);
+      pkid = at 1 (omega arith);
+      cidkr = at 2 (omega arith);
+      hf = at 4 (omega arith);
+      mf = at 5 (omega arith);
+      ks = at 6 (omega arith);
+      ts = at 7 (omega arith);
+      maclt = at 8 (omega arith);
+      wn-k = at 10 (omega arith);
+      towh-k = at 11 (omega arith);
+      alpha = at 12 (omega arith);
+    }
 
 -- what a KROOT message that is not refused meets
 module _ (memory : List ℕ) (id : ℕ) (v : KrootNumbers) (key signature padding : List ℕ) {q : ℕ} (e : q ≡ refusal (krootChecks memory id (krootOf v) key signature padding)) (z : q ≡ 0) where
@@ -131,16 +144,19 @@ module _ (memory : List ℕ) (id : ℕ) (v : KrootNumbers) (key signature paddin
   pub kroot-long : 13 + length key + length signature + length padding ≤ 208
   kroot-long = omega (arith, kroot-fits, kroot-208)
 
-length-kroot : (v : KrootValues) (key signature padding : List ℕ) → length (krootMessage v key signature padding) ≡ 13 + length key + length signature + length padding
+length-kroot : (v : KrootValues) (key signature padding : List ℕ)
+    → length (krootMessage v key signature padding) ≡ 13 + length key + length signature + length padding
 unfolding krootMessage
 length-kroot v key signature padding = simp length-append (omega (arith, length-bytes 13 (packedOn 0 krootLayout (krootNumbers v))))
 
-pub kroot-refused : (memory : List ℕ) (id : ℕ) (v : KrootValues) (key signature padding : List ℕ) {q : ℕ} → q ≡ refusal (krootChecks memory id v key signature padding) → (q ≡ 0 → ⊥)
+pub kroot-refused : (memory : List ℕ) (id : ℕ) (v : KrootValues) (key signature padding : List ℕ) {q : ℕ}
+    → q ≡ refusal (krootChecks memory id v key signature padding) → (q ≡ 0 → ⊥)
     → _≡_ {A = Written} (record { memory = memory; answer = refused q }) (writeKroot memory id v key signature padding)
 unfolding writeKroot
 kroot-refused memory id v key signature padding e ne = write-refused _ memory _ id e ne
 
-pub kroot-written : (memory : List ℕ) (id : ℕ) (v : KrootValues) (key signature padding : List ℕ) {q n : ℕ} {after : List ℕ} → q ≡ refusal (krootChecks memory id v key signature padding) → q ≡ 0
+pub kroot-written : (memory : List ℕ) (id : ℕ) (v : KrootValues) (key signature padding : List ℕ) {q n : ℕ} {after : List ℕ}
+    → q ≡ refusal (krootChecks memory id v key signature padding) → q ≡ 0
     → after ≡ over (krootMessage v key signature padding) memory → id ≤ 11 → n ≡ 13 + length key + length signature + length padding
     → _≡_ {A = Written} (record { memory = after; answer = gives (id ∷ 0 ∷ n ∷ []) }) (writeKroot memory id v key signature padding)
 unfolding writeKroot
@@ -169,23 +185,17 @@ pkr-put v nodes key padding d x y {k = k} n ex ey ea eb ec ee ef ek =
     sf ∙ ap (λ (n : ℕ). over (bytesOf 1 n ++ nodes ++ q ++ key ++ padding) d) ex
     ∙ ap (λ (n : ℕ). over (bytesOf 1 (packedOn 0 pkrFirst (v .nb-dp ∷ v .mid ∷ [])) ++ nodes ++ bytesOf 1 n ++ key ++ padding) d) ey
 
-narrow-first : (a b : ℕ) → tooWide pkrFirst (a ∷ b ∷ []) ≡ false → (a < 16) × (b < 16)
-unfolding tooWide
-narrow-first a b e = let x = step a 16 _ e in (x .0, step b 16 _ (x .1) .0)
-
-narrow-second : (a b : ℕ) → tooWide pkrSecond (a ∷ b ∷ []) ≡ false → (a < 16) × (b < 16)
-unfolding tooWide
-narrow-second a b e = let x = step a 16 _ e in (x .0, step b 16 _ (x .1) .0)
-
 module _ (memory : List ℕ) (id : ℕ) (v : PkrNumbers) (nodes key padding : List ℕ) {q : ℕ} (e : q ≡ refusal (pkrChecks memory id (pkrOf v) nodes key padding)) (z : q ≡ 0) where
   pkr-checked : Passed (pkrChecks memory id (pkrOf v) nodes key padding)
   pkr-checked = none-fails (pkrChecks memory id (pkrOf v) nodes key padding) tt (sym e ∙ z)
 
   pub pkr-halves : Halves v
   pkr-halves =
-      let a = narrow-first (v .«nb_dp») (v .mid) (pkr-checked .1 .1 .0) in
-      let b = narrow-second (v .npkt) (v .npkid) (pkr-checked .1 .1 .1 .0) in
-      record { nb-dp = a .0; mid = a .1; npkt = b .0; npkid = b .1 }
+      let at : (i : ℕ) → i < 2 → getD (v .«nb_dp» ∷ v .mid ∷ []) i 0 < 2 ^ getD pkrFirst i (row "" 0 0) .width =
+      λ i h. fits-at pkrFirst (v .«nb_dp» ∷ v .mid ∷ []) i h h (pkr-checked .1 .1 .0) in
+      let and : (i : ℕ) → i < 2 → getD (v .npkt ∷ v .npkid ∷ []) i 0 < 2 ^ getD pkrSecond i (row "" 0 0) .width =
+      λ i h. fits-at pkrSecond (v .npkt ∷ v .npkid ∷ []) i h h (pkr-checked .1 .1 .1 .0) in
+      record { nb-dp = at 0 (omega arith); mid = at 1 (omega arith); npkt = and 0 (omega arith); npkid = and 1 (omega arith) }
 
   pub pkr-id : id ≤ 15
   pkr-id = ltb-false 15 id (pkr-checked .1 .1 .1 .1 .1 .0)
@@ -214,12 +224,14 @@ length-pkr v nodes key padding h =
     simp length-append
     (omega (arith, length-bytes 1 (packedOn 0 pkrFirst (v .nb-dp ∷ v .mid ∷ [])), length-bytes 1 (packedOn 0 pkrSecond (v .npkt ∷ v .npkid ∷ []))))
 
-pub pkr-refused : (memory : List ℕ) (id : ℕ) (v : PkrValues) (nodes key padding : List ℕ) {q : ℕ} → q ≡ refusal (pkrChecks memory id v nodes key padding) → (q ≡ 0 → ⊥)
+pub pkr-refused : (memory : List ℕ) (id : ℕ) (v : PkrValues) (nodes key padding : List ℕ) {q : ℕ} → q ≡ refusal (pkrChecks memory id v nodes key padding)
+    → (q ≡ 0 → ⊥)
     → _≡_ {A = Written} (record { memory = memory; answer = refused q }) (writePkr memory id v nodes key padding)
 unfolding writePkr
 pkr-refused memory id v nodes key padding e ne = write-refused _ memory _ id e ne
 
-pub pkr-written : (memory : List ℕ) (id : ℕ) (v : PkrValues) (nodes key padding : List ℕ) {q n : ℕ} {after : List ℕ} → q ≡ refusal (pkrChecks memory id v nodes key padding) → q ≡ 0
+pub pkr-written : (memory : List ℕ) (id : ℕ) (v : PkrValues) (nodes key padding : List ℕ) {q n : ℕ} {after : List ℕ}
+    → q ≡ refusal (pkrChecks memory id v nodes key padding) → q ≡ 0
     → after ≡ over (pkrMessage v nodes key padding) memory → 12 ≤ id → length nodes ≡ 128 → n ≡ 130 + length key + length padding
     → _≡_ {A = Written} (record { memory = after; answer = gives (id ∷ 1 ∷ n ∷ []) }) (writePkr memory id v nodes key padding)
 unfolding writePkr

@@ -3,18 +3,17 @@
 use mathlib.Core.Path.{_≡_, refl, sym, ap, _∙_, subst}
 use mathlib.Core.List.{List, [], _∷_, _++_, map}
 use mathlib.Core.Bool.{Bool, true, false, cond, not}
-use Prim.Native.Nat.{ℕ, zero, suc, _+_, _-_, _*_, _/_, _%_, _^_, _≤_, _<_}
+use Prim.Native.Nat.{ℕ, _+_, _-_, _*_, _/_, _^_, _≤_, _<_}
 use native.Mathlib.Nat.{mul-one, one-mul, zero-add, zero-mul}
 use native.Mathlib.Omega.{arith}
 use lib.Dec.{T, ltb, leb, eqb, leb→le}
 use lib.ListN.{length}
-use lib.Pow.{shr-lt, shr-mono, shl-shr, shl-exact}
+use lib.Pow.{shr-lt, shr-mono, shl-shr}
 use borrow.Author.Tests.{ltb-true, ltb-false, lt-ltb, le-ltb, eq-eqb, ne-eqb}
-use Rattle.layouts.specs.Answer.{Answer, refused, gives, Check, _when_, refusal, answered}
+use Rattle.layouts.specs.Answer.{refused, gives, _when_, refusal, answered}
 use Rattle.layouts.specs.Bits.{field, Field, row, the, value, reach}
 use Rattle.layouts.specs.BitReader.{ReadBits}
 use Rattle.layouts.specs.Packed.{packedOn}
-use Rattle.layouts.specs.Meaning.{meaning-number}
 use Rattle.layouts.specs.declared.answer.Number.{Number}
 use Rattle.layouts.specs.declared.answer.Number.the-variants.{Value, Refused}
 use Rattle.layouts.proofs.Answers.{pass, done, answer-of, refused-with, given-with}

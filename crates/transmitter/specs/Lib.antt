@@ -4,5 +4,6 @@ pub mod Sending
 pub mod Shapes
 pub mod Write
 pub mod WriteBack
+pub mod WriteExamples
 pub mod WritePromises
 pub mod inner

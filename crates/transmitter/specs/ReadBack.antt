@@ -4,9 +4,10 @@ use Prim.Native.Nat.{ℕ, _+_, _*_, _<_}
 use mathlib.Core.List.{List, [], _∷_, map}
 use mathlib.Core.Path.{_≡_}
 use lib.ListN.{length, take, drop}
-use Rattle.layouts.specs.Answer.{Answer, gives, shown, copied}
+use Rattle.layouts.specs.Answer.{gives, shown, copied}
 use Rattle.layouts.specs.Bits.{Field, the, read}
-use Rattle.layouts.specs.Sizes.{size, krootBlocks, pkrBlocks, keySizes, tagSizes, readSize, hashFunctions, macFunctions, keyTypes, naming, readName, ecdsaFunctions}
+use Rattle.layouts.specs.Sizes.{size, krootBlocks, pkrBlocks, keySizes, tagSizes, readSize, hashFunctions, macFunctions, keyTypes, naming, readName}
+use Rattle.layouts.specs.Sizes.{ecdsaFunctions}
 use Rattle.layouts.specs.DsmKroot as kroot
 use Rattle.layouts.specs.DsmKroot.{krootLayout, krootPart, signaturePart, ecdsaFunction}
 use Rattle.layouts.specs.DsmPkr as pkr
@@ -20,7 +21,7 @@ use Rattle.layouts.specs.declared.dsm_kroot.EcdsaFunctionAnswer.{EcdsaFunctionA
 use Rattle.layouts.specs.declared.dsm_pkr.NewPublicKeyTypeAnswer.{NewPublicKeyTypeAnswer}
 use Rattle.layouts.specs.declared.dsm_pkr.TreeNode.{TreeNode}
 use Rattle.transmitter.specs.Write.{KrootValues, krootNumbers, writeKroot, PkrValues, writePkr}
-use Rattle.transmitter.specs.WritePromises.{krootOf, pkrOf, meaning-written, WriteKroot, WritePkr, ReadKrootValues, ReadPkrValues}
+use Rattle.transmitter.specs.WritePromises.{meaning-written, WriteKroot, WritePkr, ReadKrootValues, ReadPkrValues}
 use Rattle.transmitter.specs.declared.answer.WriteAnswer.{WriteAnswer}
 use Rattle.transmitter.specs.declared.kroot.KrootValues.{KrootValues as KrootNumbers}
 use Rattle.transmitter.specs.declared.kroot.KrootRead.{KrootRead}

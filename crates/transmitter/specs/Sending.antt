@@ -8,7 +8,7 @@ use mathlib.Core.Path.{_≡_}
 use lib.ListN.{length, take, drop}
 use lib.Dec.{eqb}
 use Rattle.layouts.specs.Lists.{all}
-use Rattle.layouts.specs.Answer.{Answer, nothing, gives}
+use Rattle.layouts.specs.Answer.{nothing, gives}
 use Rattle.layouts.specs.DsmHeader.{dsmType}
 use Rattle.dsms.specs.DsmPromises.{meaning-dsm, meaning-shown, ViewDsm, ViewDsmShown}
 use Rattle.dsms.specs.DsmRecovery.{Call, isAdmitted}

@@ -1,14 +1,14 @@
 -- Request 1: the messages that exist. "11 for a key not as long as its size or type says, KROOT padding above 12 bytes, or parts that don't fill the
 -- counted blocks" leaves 18 shapes of a KROOT message and 9 of a PKR message.
 -- Assumes nothing.
-use Prim.Native.Nat.{ℕ, _+_, _*_}
+use Prim.Native.Nat.{ℕ}
 use mathlib.Core.List.{List, [], _∷_, map}
 use mathlib.Core.Bool.{Bool, true, false, _&&_, _||_}
 use mathlib.Core.Path.{_≡_}
 use lib.ListN.{length, replicate}
 use lib.Dec.{eqb}
 use Rattle.layouts.specs.Answer.{refusal}
-use Rattle.layouts.specs.Sizes.{size, krootBlocks, pkrBlocks}
+use Rattle.layouts.specs.Sizes.{size}
 use Rattle.transmitter.specs.Write.{KrootValues, krootChecks, PkrValues, pkrChecks}
 
 -- KROOT: the code of the count, the code of the key's size, and the bytes of key, signature and padding

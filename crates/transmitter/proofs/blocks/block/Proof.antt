@@ -1,6 +1,5 @@
 -- `blocks::block`: the refusals, then the header and the bytes.
 -- Assumes nothing.
-use mathlib.Core.Path.{refl}
 use Prim.Native.Nat.{_≤_}
 use native.Mathlib.Omega.{arith}
 use Rattle.transmitter.proofs.Cutting.{cut-refused, cut-id-few, cut-few, cut-fits, cut-given}

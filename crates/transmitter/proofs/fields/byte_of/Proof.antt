@@ -1,7 +1,5 @@
 -- `fields::byte_of`: a shift by whole bytes.
 -- Assumes nothing.
-use mathlib.Core.Path.{ap, sym}
-use Prim.Native.Nat.{ℕ, _/_, _%_}
 use borrow.Author.Needs.{needs}
 use Rattle.layouts.proofs.Packed.{pow-bytes}
 use Rattle.transmitter.proofs.fields.byte_of.Statement.{statement}

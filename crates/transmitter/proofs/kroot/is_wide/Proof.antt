@@ -39,13 +39,16 @@ fit-6 c r h = fit-5 (c .before .before) _ (wide-on _ _ _ _ (c .before .is-wide6 
 fit-7 : (c : tie.Else7) → Fit (c .before .before .before .before .before .before .before .before .before .before .before .before .before .before .args .v) 8
 fit-7 c r h = fit-6 (c .before .before) _ (wide-on _ _ _ _ (c .before .is-wide7 .ensures) (c .if7 .left) h)
 
-fit-8 : (c : tie.Else8) → Fit (c .before .before .before .before .before .before .before .before .before .before .before .before .before .before .before .before .args .v) 10
+fit-8 : (c : tie.Else8)
+    → Fit (c .before .before .before .before .before .before .before .before .before .before .before .before .before .before .before .before .args .v) 10
 fit-8 c r h = fit-7 (c .before .before) _ (wide-on _ _ _ _ (c .before .is-wide8 .ensures) (c .if8 .left) (wide-zero _ _ _ h))
 
-fit-9 : (c : tie.Else9) → Fit (c .before .before .before .before .before .before .before .before .before .before .before .before .before .before .before .before .before .before .args .v) 11
+fit-9 : (c : tie.Else9)
+    → Fit (c .before .before .before .before .before .before .before .before .before .before .before .before .before .before .before .before .before .before .args .v) 11
 fit-9 c r h = fit-8 (c .before .before) _ (wide-on _ _ _ _ (c .before .is-wide9 .ensures) (c .if9 .left) h)
 
-fit-10 : (c : tie.Else10) → Fit (c .before .before .before .before .before .before .before .before .before .before .before .before .before .before .before .before .before .before .before .before .args .v) 12
+fit-10 : (c : tie.Else10)
+    → Fit (c .before .before .before .before .before .before .before .before .before .before .before .before .before .before .before .before .before .before .before .before .args .v) 12
 fit-10 c r h = fit-9 (c .before .before) _ (wide-on _ _ _ _ (c .before .is-wide10 .ensures) (c .if10 .left) h)
 
 is-wide-requires : tie.Need-is-wide-requires

@@ -1,6 +1,7 @@
 -- `kroot::refuses`: each check, in its order.
 -- Assumes nothing.
-use Rattle.transmitter.proofs.KrootRefusals.{kroot-memory, kroot-signature, kroot-wide, kroot-id, kroot-count, kroot-key-size, kroot-tag-size, kroot-key, kroot-padding, kroot-unfilled, kroot-filled}
+use Rattle.transmitter.proofs.KrootRefusals.{kroot-memory, kroot-signature, kroot-wide, kroot-id, kroot-count, kroot-key-size, kroot-tag-size}
+use Rattle.transmitter.proofs.KrootRefusals.{kroot-key, kroot-padding, kroot-unfilled, kroot-filled}
 use borrow.Author.Needs.{needs}
 use Rattle.transmitter.proofs.kroot.refuses.Statement.{statement}
 use Rattle.transmitter.proofs.kroot.refuses.Tie as tie

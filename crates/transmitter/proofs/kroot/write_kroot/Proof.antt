@@ -35,7 +35,9 @@ add-bytes-3 c =
     let h : 13 + length (a .key .now) + length (a .signature .now) + length (a .padding .now) ≤ 208 = search kroot-long in omega arith
 
 cast-t20 : tie.Need-cast-t20
-cast-t20 c = let a = c .before .before .before .before .before .before .before .before .before .before .before .args in let h : a .id ≤ 11 = search kroot-id in omega arith
+cast-t20 c =
+    let a =
+    c .before .before .before .before .before .before .before .before .before .before .before .args in let h : a .id ≤ 11 = search kroot-id in omega arith
 
 same-length-2 : tie.Need-same-length-2
 same-length-2 c = search needs

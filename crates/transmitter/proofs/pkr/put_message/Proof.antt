@@ -1,7 +1,6 @@
 -- `pkr::put_message`: each part behind the one before.
 -- Assumes nothing.
 use mathlib.Core.Path.{refl}
-use native.Mathlib.Omega.{arith}
 use Rattle.transmitter.specs.WritePromises.{pkrOf}
 use Rattle.transmitter.proofs.Putting.{pkr-put}
 use Rattle.transmitter.proofs.Rows.{two-placed}

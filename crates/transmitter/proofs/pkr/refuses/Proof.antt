@@ -1,6 +1,7 @@
 -- `pkr::refuses`: each check, in its order.
 -- Assumes nothing.
-use Rattle.transmitter.proofs.PkrRefusals.{pkr-memory, pkr-nodes, pkr-wide, pkr-wide-second, pkr-low, pkr-high, pkr-count, pkr-type, pkr-key, pkr-late, pkr-unfilled, pkr-filled}
+use Rattle.transmitter.proofs.PkrRefusals.{pkr-memory, pkr-nodes, pkr-wide, pkr-wide-second, pkr-low, pkr-high, pkr-count, pkr-type, pkr-key}
+use Rattle.transmitter.proofs.PkrRefusals.{pkr-late, pkr-unfilled, pkr-filled}
 use borrow.Author.Needs.{needs}
 use Rattle.transmitter.proofs.pkr.refuses.Statement.{statement}
 use Rattle.transmitter.proofs.pkr.refuses.Tie as tie

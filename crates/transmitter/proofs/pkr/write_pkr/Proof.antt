@@ -30,7 +30,8 @@ add-bytes-2 c =
     let h : 130 + length (a .key .now) + length (a .padding .now) ≤ 208 = search pkr-long in omega arith
 
 cast-t18 : tie.Need-cast-t18
-cast-t18 c = let a = c .before .before .before .before .before .before .before .before .before .before .before .args in let h : a .id ≤ 15 = search pkr-id in omega arith
+cast-t18 c =
+    let a = c .before .before .before .before .before .before .before .before .before .before .before .args in let h : a .id ≤ 15 = search pkr-id in omega arith
 
 same-length-2 : tie.Need-same-length-2
 same-length-2 c = search needs
