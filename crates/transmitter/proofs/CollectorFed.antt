@@ -1,7 +1,7 @@
 -- The collector fed from what a writer left, whatever came before.
 -- Assumes nothing.
 use mathlib.Core.Path.{_≡_, refl, sym, ap, _∙_, subst, subst⁻¹}
-use mathlib.Core.List.{List, [], _∷_, _++_, map-append}
+use mathlib.Core.List.{List, [], _∷_, _++_, map-append, append-assoc, append-nil}
 use mathlib.Core.Bool.{Bool, true, false, cond, not, _&&_}
 use Prim.Native.Nat.{ℕ, _+_, _*_, _≤_, _<_}
 use native.Mathlib.Omega.{arith}
@@ -23,15 +23,16 @@ use Rattle.dsms.specs.Dsm.{State, new, idOf, blockOf, fresh, begun, taken, coun
 use Rattle.dsms.specs.DsmPromises.{state}
 use Rattle.dsms.specs.DsmRecovery.{Call, isAdmitted, fedTo, after, before, grown, run, counts, isWhole, dsmOf, inView, bytesInView, firstCopies}
 use Rattle.dsms.specs.DsmRecovery.{runId, comesOut, Recovers, Viewed}
+use Rattle.dsms.specs.DsmHistory.{by-value}
 use Rattle.dsms.specs.declared.dsm.CollectDsm.{CollectDsm}
 use Rattle.dsms.proofs.Blocks.{counted-few, admitted, other-block, feed-taken, feed-refused}
 use Rattle.dsms.proofs.DsmSound.{Sound, sound-fed}
 use Rattle.dsms.proofs.DsmRecovery.{dsm-recovers, dsm-shows}
-use Rattle.dsms.proofs.DsmHistory.{feeding-is, after-more, code-recovers}
+use Rattle.dsms.proofs.DsmHistory.{feeding-is, after-more, code-recovers, any-calls}
 use Rattle.transmitter.specs.Write.{Written, written, KrootValues, PkrValues, blocks, cut, cutChecks, krootMessage, krootChecks, writeKroot}
 use Rattle.transmitter.specs.Write.{pkrMessage, pkrChecks, writePkr}
 use Rattle.transmitter.specs.WritePromises.{krootOf, pkrOf, meaning-header, CutBlock}
-use Rattle.transmitter.specs.Sending.{IsCut, Fed, idle, called, refused-one, misfit, viewed, among, allOf, ComesOut, CollectorFed}
+use Rattle.transmitter.specs.Sending.{IsCut, Fed, idle, called, refused-one, misfit, viewed, among, allOf, ComesOut, Counted, AnyOrder, CollectorFed}
 use Rattle.transmitter.specs.inner.Parts.{over}
 use Rattle.transmitter.specs.declared.blocks.BlockHeader.the-variants.{Byte, Refused}
 use Rattle.transmitter.specs.declared.blocks.BlockCut.{BlockCut}
@@ -263,6 +264,27 @@ module _ (sent : List ℕ) (id : ℕ) (long : length sent ≡ 208) (few : id ≤
           );
         }
 
+-- No order is ruled out.
+module _ (sent : List ℕ) (id : ℕ) (long : length sent ≡ 208) (few : id ≤ 15) where
+  one-cut : (k : ℕ) → k < blocks sent id → IsCut sent id k (call sent id long few k)
+  one-cut k h = (
+    record { answer = Byte (id * 16 + k); bytes = take 13 (drop (13 * k) sent) },
+    is-cut sent id long few k h,
+    refl,
+    refl,
+  )
+
+  any-more : {c : CollectDsm} {memory ms : List ℕ} → Fed sent id c memory ms → (ns : List ℕ) → Counted (blocks sent id) ns
+      → (c′ : CollectDsm) × (memory′ : List ℕ) × Fed sent id c′ memory′ (ms ++ ns)
+  any-more {c} {memory} {ms} f [] b = (c, memory, subst⁻¹ (λ (l : List ℕ). Fed sent id c memory l) (append-nil ms) f)
+  any-more {c} {memory} {ms} f (n ∷ ns) b =
+      let r = any-calls .feed c memory (call sent id long few n) in
+      let g = any-more (called n f (one-cut n (b .0)) (by-value (call sent id long few n) (r .0) (r .1) (r .2))) ns (b .1) in
+      (g .0, g .1, subst (λ (l : List ℕ). Fed sent id (g .0) (g .1) l) (append-assoc ms (n ∷ []) ns) (g .2))
+
+  any-order : AnyOrder sent id
+  any-order c memory l low e ns b = any-more (idle c memory l low e) ns b
+
 -- what a write leaves
 over-long : (m d : List ℕ) → length m ≤ length d → length (over m d) ≡ length d
 over-long m d h = length-append m (drop (length m) d) ∙ ap (λ (n : ℕ). length m + n) (length-drop (length m) d) ∙ omega arith
@@ -277,12 +299,13 @@ module _ (checks : List Check) (memory message : List ℕ) (id t n : ℕ) {a : A
   left = w ∙ written-is checks memory message id passes
 
   write-fed : length memory ≡ 208 → length message ≤ 208 → id ≤ 15 → 0 < length message → length message ≡ 13 * blocks (over message memory) id
-      → ComesOut sent id n
+      → ComesOut sent id n × AnyOrder sent id
   write-fed l m few some c =
       let there : sent ≡ over message memory = ap (λ (x : Written). x .memory) left in
       let long : length message ≡ n = third-of (sym (ap (λ (x : Written). x .answer) left) ∙ e) in
       let counts : length message ≡ 13 * blocks sent id = c ∙ ap (λ (x : List ℕ). 13 * blocks x id) (sym there) in
-      comes-out sent id (ap length there ∙ over-long message memory (omega arith) ∙ l) few (omega arith) n (sym counts ∙ long)
+      let all : length sent ≡ 208 = ap length there ∙ over-long message memory (omega arith) ∙ l in
+      (comes-out sent id all few (omega arith) n (sym counts ∙ long), any-order sent id all few)
 
 kroot-count : (m d : List ℕ) (id n : ℕ) → id ≤ 11 → 4 ≤ 8 * length m → value (the "NB_DK" krootLayout) m ≡ n → blocks (over m d) id ≡ size krootBlocks n
 unfolding counted
@@ -293,7 +316,7 @@ unfolding counted
 pkr-count m d id n h l e = rw (le-ltb id 12 h) (ap (size pkrBlocks) (field-front m (drop (length m) d) 0 4 l ∙ e))
 
 kroot-fed : (memory : List ℕ) (id : ℕ) (v : KrootValues) (key signature padding : List ℕ) (a : Answer) (sent : List ℕ) (n : ℕ)
-    → _≡_ {A = Written} (record { memory = sent; answer = a }) (writeKroot memory id v key signature padding) → a ≡ gives (id ∷ 0 ∷ n ∷ []) → ComesOut sent id n
+    → _≡_ {A = Written} (record { memory = sent; answer = a }) (writeKroot memory id v key signature padding) → a ≡ gives (id ∷ 0 ∷ n ∷ []) → ComesOut sent id n × AnyOrder sent id
 unfolding writeKroot
 kroot-fed memory id v key signature padding a sent n w e =
     let checks = krootChecks memory id v key signature padding in
@@ -308,7 +331,7 @@ kroot-fed memory id v key signature padding a sent n w e =
     (omega arith) (omega arith) (whole ∙ ap (λ (x : ℕ). 13 * x) (sym (kroot-count message memory id (v .nb-dk) few (omega arith) nb)))
 
 pkr-fed : (memory : List ℕ) (id : ℕ) (v : PkrValues) (nodes key padding : List ℕ) (a : Answer) (sent : List ℕ) (n : ℕ)
-    → _≡_ {A = Written} (record { memory = sent; answer = a }) (writePkr memory id v nodes key padding) → a ≡ gives (id ∷ 1 ∷ n ∷ []) → ComesOut sent id n
+    → _≡_ {A = Written} (record { memory = sent; answer = a }) (writePkr memory id v nodes key padding) → a ≡ gives (id ∷ 1 ∷ n ∷ []) → ComesOut sent id n × AnyOrder sent id
 unfolding writePkr
 pkr-fed memory id v nodes key padding a sent n w e =
     let checks = pkrChecks memory id v nodes key padding in
@@ -316,8 +339,8 @@ pkr-fed memory id v nodes key padding a sent n w e =
     let p : Passed checks = none-fails checks tt (passes checks memory message id 1 n w e) in
     let f : PkrFacts message v nodes key padding = pkr-facts memory id v nodes key padding p in
     let whole : length message ≡ 13 * size pkrBlocks (v .nb-dp) = f .long ∙ f .whole in
-    let kind : 12 ≤ id = ltb-false id 12 (p .1 .1 .1 .1 .0) in
-    let few : id ≤ 15 = ltb-false 15 id (p .1 .1 .1 .1 .1 .0) in
+    let kind : 12 ≤ id = ltb-false id 12 (p .1 .1 .1 .0) in
+    let few : id ≤ 15 = ltb-false 15 id (p .1 .1 .1 .1 .0) in
     let some : 130 ≤ length message = omega (arith, f .long) in
     write-fed checks memory message id 1 n w e (eqb-true (length memory) 208 (not-false _ (p .0))) (omega (arith, pkr-blocks-few (v .nb-dp), whole)) few
     (omega arith) (whole ∙ ap (λ (x : ℕ). 13 * x) (sym (pkr-count message memory id (v .nb-dp) kind (omega arith) (f .count-says))))

@@ -16,7 +16,7 @@ use Rattle.layouts.proofs.Answers.{Passed, none-fails, copied-bytes}
 use Rattle.layouts.proofs.Pkr.{node-there}
 use Rattle.runs.proofs.Basics.{and-true}
 use Rattle.layouts.specs.Packed.{packedOn, bytesOf}
-use Rattle.transmitter.specs.Write.{pkrFirst, pkrSecond, pkrMessage, pkrChecks, writePkr}
+use Rattle.transmitter.specs.Write.{pkrRows, pkrFirst, pkrSecond, pkrMessage, pkrChecks, writePkr}
 use Rattle.transmitter.specs.WriteBack.{Bytes, given, allGiven, pkrAnswers, isGoodPkr, pkrRead, node, pkrRewritten, Same, WritesBackExactlyIf}
 use Rattle.transmitter.proofs.Writes.{written-is}
 use Rattle.transmitter.proofs.KrootBack.{shown-of}
@@ -130,8 +130,7 @@ module _ (m : List ℕ) (good : isGoodPkr m ≡ true) where
         let lp : length padding ≡ rest = long-part m (130 + k) rest (omega (arith, all-of-it)) in
         pkr-filled memory id (pkrRead m) nodes key padding long
         (long-part m 1 128 (omega (arith, head-there)))
-        refl (values-narrow m pkrFirst)
-        refl (values-narrow m pkrSecond)
+        refl (values-narrow m pkrRows)
         low
         (omega arith)
         refl count-some

@@ -2,7 +2,7 @@
 -- Assumes nothing.
 use mathlib.Core.Path.{_≡_, refl, sym, ap, _∙_, subst⁻¹}
 use mathlib.Core.List.{List, [], _∷_, _++_, map, append-assoc}
-use mathlib.Core.Bool.{Bool, true, false, cond, not}
+use mathlib.Core.Bool.{Bool, true, false, cond, not, _||_}
 use Prim.Native.Nat.{ℕ, _+_, _-_, _*_, _/_, _%_, _^_, _≤_, _<_}
 use native.Mathlib.Omega.{arith}
 use lib.Dec.{ltb, eqb}
@@ -16,7 +16,7 @@ use Rattle.layouts.specs.DsmPkr.{pkrLayout, newKeySizes, count, keyBytes, newKe
 use Rattle.layouts.proofs.Answers.{pass, done, Passed, none-fails, copied-bytes}
 use Rattle.layouts.proofs.Pkr.{node-there}
 use Rattle.layouts.specs.Packed.{packedOn, bytesOf, tooWide}
-use Rattle.transmitter.specs.Write.{PkrValues, pkrFirst, pkrSecond, pkrMessage, pkrChecks, writePkr}
+use Rattle.transmitter.specs.Write.{PkrValues, pkrRows, pkrFirst, pkrSecond, pkrMessage, pkrChecks, writePkr}
 use Rattle.transmitter.specs.ReadBack.{PkrReads, PkrReadsBack}
 use Rattle.layouts.proofs.Packed.{field-of-bytes, field-front, field-behind, length-bytes, rows-say, or-false, not-wide}
 use Rattle.transmitter.proofs.Writes.{none-refused, message-back}
@@ -133,6 +133,15 @@ pub half-bytes : (a b : ℕ) → a < 16 → b < 16 → bytesOf 1 (packedOn 0 pkr
 unfolding bytesOf packedOn
 half-bytes a b g h = ap (λ (n : ℕ). n ∷ []) (omega arith)
 
+-- the four values fit: so do the two of each byte
+apart : (a b c d : ℕ) → tooWide pkrRows (a ∷ b ∷ c ∷ d ∷ []) ≡ false
+    → (tooWide pkrFirst (a ∷ b ∷ []) ≡ false) × (tooWide pkrSecond (c ∷ d ∷ []) ≡ false)
+unfolding tooWide
+apart a b c d e =
+    let rest : Bool = not (ltb c 16) || (not (ltb d 16) || false) in
+    let x = or-false (not (ltb a 16)) (not (ltb b 16) || rest) e in
+    let y = or-false (not (ltb b 16)) rest (x .1) in (rw (x .0, y .0), y .1)
+
 pub halves : (a b : ℕ) → tooWide pkrSecond (a ∷ b ∷ []) ≡ false → (a < 16) × (b < 16)
 unfolding tooWide
 halves a b e =
@@ -144,6 +153,7 @@ module _ (memory : List ℕ) (id : ℕ) (v : PkrValues) (nodes key padding : Lis
   pub pkr-facts : PkrFacts (pkrMessage v nodes key padding) v nodes key padding
   unfolding pkrMessage
   pkr-facts =
+      let both = apart (v .nb-dp) (v .mid) (v .npkt) (v .npkid) (p .1 .1 .0) in
       let n1 : ℕ = packedOn 0 pkrFirst (v .nb-dp ∷ v .mid ∷ []) in
       let n2 : ℕ = packedOn 0 pkrSecond (v .npkt ∷ v .npkid ∷ []) in
       let a : List ℕ = bytesOf 1 n1 in
@@ -157,10 +167,10 @@ module _ (memory : List ℕ) (id : ℕ) (v : PkrValues) (nodes key padding : Lis
       let apart1 : m ≡ a ++ (nodes ++ (b ++ (key ++ padding))) = simp append-assoc in
       let apart2 : m ≡ (a ++ nodes) ++ (b ++ (key ++ padding)) = simp append-assoc in
       let v1 : map (λ (f : Field). value f m) pkrFirst ≡ v .nb-dp ∷ v .mid ∷ [] =
-      rows-say m 0 0 pkrFirst 8 (v .nb-dp ∷ v .mid ∷ []) tt (p .1 .1 .0) refl
+      rows-say m 0 0 pkrFirst 8 (v .nb-dp ∷ v .mid ∷ []) tt (both .0) refl
       (λ s w g h. ap (λ (l : List ℕ). field l s w) apart1 ∙ field-front a (nodes ++ (b ++ (key ++ padding))) s w (omega (arith, h, la)) ∙ field-of-bytes 1 n1 s w h) in
       let v2 : map (λ (f : Field). value f m) pkrSecond ≡ v .npkt ∷ v .npkid ∷ [] =
-      rows-say m 0 1032 pkrSecond 1040 (v .npkt ∷ v .npkid ∷ []) tt (p .1 .1 .1 .0) refl
+      rows-say m 0 1032 pkrSecond 1040 (v .npkt ∷ v .npkid ∷ []) tt (both .1) refl
       (λ s w g h.
       let at : s ≡ 8 * length (a ++ nodes) + (s - 1032) = omega (arith, g, l129) in
       let place : 8 - (s - 1032) - w ≡ 1040 - s - w = omega arith in
@@ -169,10 +179,10 @@ module _ (memory : List ℕ) (id : ℕ) (v : PkrValues) (nodes key padding : Lis
       ∙ field-front b (key ++ padding) (s - 1032) w (omega (arith, g, h, lb))
       ∙ field-of-bytes 1 n2 (s - 1032) w (omega (arith, g, h))
       ∙ ap (λ (x : ℕ). n2 / 2 ^ x % 2 ^ w) place) in
-      let some : size pkrBlocks (v .nb-dp) ≡ 0 → ⊥ = eqb-false _ 0 (p .1 .1 .1 .1 .1 .1 .0) in
-      let typed : length (naming keyTypes (v .npkt)) ≡ 0 → ⊥ = eqb-false _ 0 (p .1 .1 .1 .1 .1 .1 .1 .0) in
-      let keys : length key ≡ size (newKeySizes (size pkrBlocks (v .nb-dp))) (v .npkt) = eqb-true _ _ (not-false _ (p .1 .1 .1 .1 .1 .1 .1 .1 .0)) in
-      let two : (v .npkt < 16) × (v .npkid < 16) = halves (v .npkt) (v .npkid) (p .1 .1 .1 .0) in
+      let some : size pkrBlocks (v .nb-dp) ≡ 0 → ⊥ = eqb-false _ 0 (p .1 .1 .1 .1 .1 .0) in
+      let typed : length (naming keyTypes (v .npkt)) ≡ 0 → ⊥ = eqb-false _ 0 (p .1 .1 .1 .1 .1 .1 .0) in
+      let keys : length key ≡ size (newKeySizes (size pkrBlocks (v .nb-dp))) (v .npkt) = eqb-true _ _ (not-false _ (p .1 .1 .1 .1 .1 .1 .1 .0)) in
+      let two : (v .npkt < 16) × (v .npkid < 16) = halves (v .npkt) (v .npkid) (both .1) in
       record {
         count-says = ap (λ (l : List ℕ). getD l 0 0) v1;
         message-says = ap (λ (l : List ℕ). getD l 1 0) v1;
@@ -197,7 +207,7 @@ module _ (memory : List ℕ) (id : ℕ) (v : PkrValues) (nodes key padding : Lis
         count-some = some;
         key-some = λ z. typed-some (size pkrBlocks (v .nb-dp)) (v .npkt) (blocks-many (v .nb-dp) some) typed (sym keys ∙ z);
         key-long = keys;
-        whole = eqb-true _ _ (not-false _ (p .1 .1 .1 .1 .1 .1 .1 .1 .1 .0));
+        whole = eqb-true _ _ (not-false _ (p .1 .1 .1 .1 .1 .1 .1 .1 .0));
       }
 
 pub pkr-back : PkrReadsBack

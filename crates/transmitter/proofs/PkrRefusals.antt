@@ -13,7 +13,7 @@ use Rattle.layouts.specs.Bits.{the}
 use Rattle.layouts.specs.Sizes.{size, pkrBlocks, keyTypes, naming}
 use Rattle.layouts.specs.DsmPkr.{newKeySizes}
 use Rattle.layouts.specs.Packed.{tooWide}
-use Rattle.transmitter.specs.Write.{pkrFirst, pkrSecond, PkrValues, pkrChecks}
+use Rattle.transmitter.specs.Write.{pkrRows, PkrValues, pkrNumbers, pkrChecks}
 use Rattle.layouts.proofs.Answers.{stop-n, pass-n, none-n, differs, equals}
 
 -- in a message of so many blocks a type has a size exactly if it has a name
@@ -69,73 +69,66 @@ module _ (memory : List ℕ) (id : ℕ) (v : PkrValues) (nodes key padding : Lis
     pub pkr-nodes : (length nodes ≡ 128 → ⊥) → 1 ≡ refusal (pkrChecks memory id v nodes key padding)
     pkr-nodes h = pass-n 1 _ _ (equals (length memory) 208 h₁) (stop-n 1 _ _ (differs (length nodes) 128 h))
 
-    module _ (h₂ : length nodes ≡ 128) {w : Bool} (e₃ : w ≡ tooWide pkrFirst (v .nb-dp ∷ v .mid ∷ [])) where
+    module _ (h₂ : length nodes ≡ 128) {w : Bool} (e₃ : w ≡ tooWide pkrRows (pkrNumbers v)) where
       go₂ : {r : ℕ} → r ≡ refusal (drop 2 (pkrChecks memory id v nodes key padding)) → r ≡ refusal (pkrChecks memory id v nodes key padding)
       go₂ h = pass-n 1 _ _ (equals (length memory) 208 h₁) (pass-n 1 _ _ (equals (length nodes) 128 h₂) h)
 
       pub pkr-wide : w ≡ true → 7 ≡ refusal (pkrChecks memory id v nodes key padding)
       pkr-wide h = go₂ (stop-n 7 _ _ (sym e₃ ∙ h))
 
-      module _ (h₃ : w ≡ false) {x : Bool} (e₄ : x ≡ tooWide pkrSecond (v .npkt ∷ v .npkid ∷ [])) where
+      module _ (h₃ : w ≡ false) where
         go₃ : {r : ℕ} → r ≡ refusal (drop 3 (pkrChecks memory id v nodes key padding)) → r ≡ refusal (pkrChecks memory id v nodes key padding)
         go₃ h = go₂ (pass-n 7 _ _ (sym e₃ ∙ h₃) h)
 
-        pub pkr-wide-second : x ≡ true → 7 ≡ refusal (pkrChecks memory id v nodes key padding)
-        pkr-wide-second h = go₃ (stop-n 7 _ _ (sym e₄ ∙ h))
+        pub pkr-low : id < 12 → 7 ≡ refusal (pkrChecks memory id v nodes key padding)
+        pkr-low h = go₃ (stop-n 7 _ _ (lt-ltb id 12 h))
 
-        module _ (h₄ : x ≡ false) where
-          go₄ : {r : ℕ} → r ≡ refusal (drop 4 (pkrChecks memory id v nodes key padding)) → r ≡ refusal (pkrChecks memory id v nodes key padding)
-          go₄ h = go₃ (pass-n 7 _ _ (sym e₄ ∙ h₄) h)
+        module _ (h₄ : 12 ≤ id) where
+          pub pkr-high : 15 < id → 7 ≡ refusal (pkrChecks memory id v nodes key padding)
+          pkr-high h = go₃ (pass-n 7 _ _ (le-ltb id 12 h₄) (stop-n 7 _ _ (lt-ltb 15 id h)))
 
-          pub pkr-low : id < 12 → 7 ≡ refusal (pkrChecks memory id v nodes key padding)
-          pkr-low h = go₄ (stop-n 7 _ _ (lt-ltb id 12 h))
+          module _ (h₅ : id ≤ 15) {n : ℕ} (e₆ : n ≡ size pkrBlocks (v .nb-dp)) where
+            go₅ : {r : ℕ} → r ≡ refusal (drop 5 (pkrChecks memory id v nodes key padding)) → r ≡ refusal (pkrChecks memory id v nodes key padding)
+            go₅ h = go₃ (pass-n 7 _ _ (le-ltb id 12 h₄) (pass-n 7 _ _ (le-ltb 15 id h₅) h))
 
-          module _ (h₅ : 12 ≤ id) where
-            pub pkr-high : 15 < id → 7 ≡ refusal (pkrChecks memory id v nodes key padding)
-            pkr-high h = go₄ (pass-n 7 _ _ (le-ltb id 12 h₅) (stop-n 7 _ _ (lt-ltb 15 id h)))
+            pub pkr-count : n ≡ 0 → 6 ≡ refusal (pkrChecks memory id v nodes key padding)
+            pkr-count h = go₅ (stop-n 6 _ _ (eq-eqb (size pkrBlocks (v .nb-dp)) 0 (sym e₆ ∙ h)))
 
-            module _ (h₆ : id ≤ 15) {n : ℕ} (e₇ : n ≡ size pkrBlocks (v .nb-dp)) where
+            module _ (h₆ : n ≡ 0 → ⊥) {k : ℕ} (e₇ : k ≡ size (newKeySizes n) (v .npkt)) where
               go₆ : {r : ℕ} → r ≡ refusal (drop 6 (pkrChecks memory id v nodes key padding)) → r ≡ refusal (pkrChecks memory id v nodes key padding)
-              go₆ h = go₄ (pass-n 7 _ _ (le-ltb id 12 h₅) (pass-n 7 _ _ (le-ltb 15 id h₆) h))
+              go₆ h = go₅ (pass-n 6 _ _ (ne-eqb (size pkrBlocks (v .nb-dp)) 0 (λ z. h₆ (e₆ ∙ z))) h)
 
-              pub pkr-count : n ≡ 0 → 6 ≡ refusal (pkrChecks memory id v nodes key padding)
-              pkr-count h = go₆ (stop-n 6 _ _ (eq-eqb (size pkrBlocks (v .nb-dp)) 0 (sym e₇ ∙ h)))
+              sized : k ≡ size (newKeySizes (size pkrBlocks (v .nb-dp))) (v .npkt)
+              sized = e₇ ∙ ap (λ (m : ℕ). size (newKeySizes m) (v .npkt)) e₆
 
-              module _ (h₇ : n ≡ 0 → ⊥) {k : ℕ} (e₈ : k ≡ size (newKeySizes n) (v .npkt)) where
+              pub pkr-type : k ≡ 0 → 6 ≡ refusal (pkrChecks memory id v nodes key padding)
+              pkr-type h =
+                  go₆ (stop-n 6 _ _ (unsized-unnamed (size pkrBlocks (v .nb-dp)) (v .npkt) (blocks-many (v .nb-dp) (λ z. h₆ (e₆ ∙ z))) (sym sized ∙ h)))
+
+              module _ (h₇ : k ≡ 0 → ⊥) where
                 go₇ : {r : ℕ} → r ≡ refusal (drop 7 (pkrChecks memory id v nodes key padding)) → r ≡ refusal (pkrChecks memory id v nodes key padding)
-                go₇ h = go₆ (pass-n 6 _ _ (ne-eqb (size pkrBlocks (v .nb-dp)) 0 (λ z. h₇ (e₇ ∙ z))) h)
+                go₇ h = go₆ (pass-n 6 _ _ (sized-named (size pkrBlocks (v .nb-dp)) (v .npkt) (λ z. h₇ (sized ∙ z))) h)
 
-                sized : k ≡ size (newKeySizes (size pkrBlocks (v .nb-dp))) (v .npkt)
-                sized = e₈ ∙ ap (λ (m : ℕ). size (newKeySizes m) (v .npkt)) e₇
+                pub pkr-key : (length key ≡ k → ⊥) → 11 ≡ refusal (pkrChecks memory id v nodes key padding)
+                pkr-key h = go₇ (stop-n 11 _ _ (differs (length key) (size (newKeySizes (size pkrBlocks (v .nb-dp))) (v .npkt)) (λ z. h (z ∙ sym sized))))
 
-                pub pkr-type : k ≡ 0 → 6 ≡ refusal (pkrChecks memory id v nodes key padding)
-                pkr-type h =
-                    go₇ (stop-n 6 _ _ (unsized-unnamed (size pkrBlocks (v .nb-dp)) (v .npkt) (blocks-many (v .nb-dp) (λ z. h₇ (e₇ ∙ z))) (sym sized ∙ h)))
-
-                module _ (h₈ : k ≡ 0 → ⊥) where
+                module _ (h₈ : length key ≡ k) where
                   go₈ : {r : ℕ} → r ≡ refusal (drop 8 (pkrChecks memory id v nodes key padding)) → r ≡ refusal (pkrChecks memory id v nodes key padding)
-                  go₈ h = go₇ (pass-n 6 _ _ (sized-named (size pkrBlocks (v .nb-dp)) (v .npkt) (λ z. h₈ (sized ∙ z))) h)
+                  go₈ h = go₇ (pass-n 11 _ _ (equals (length key) (size (newKeySizes (size pkrBlocks (v .nb-dp))) (v .npkt)) (h₈ ∙ sized)) h)
 
-                  pub pkr-key : (length key ≡ k → ⊥) → 11 ≡ refusal (pkrChecks memory id v nodes key padding)
-                  pkr-key h = go₈ (stop-n 11 _ _ (differs (length key) (size (newKeySizes (size pkrBlocks (v .nb-dp))) (v .npkt)) (λ z. h (z ∙ sym sized))))
+                  unfilled : (130 + k + length padding ≡ 13 * n → ⊥) → 11 ≡ refusal (pkrChecks memory id v nodes key padding)
+                  unfilled h =
+                      go₈ (stop-n 11 _ _ (differs (130 + length key + length padding) (13 * size pkrBlocks (v .nb-dp))
+                      (λ z. h (ap (λ (m : ℕ). 130 + m + length padding) (sym h₈) ∙ z ∙ ap (λ (m : ℕ). 13 * m) (sym e₆)))))
 
-                  module _ (h₉ : length key ≡ k) where
-                    go₉ : {r : ℕ} → r ≡ refusal (drop 9 (pkrChecks memory id v nodes key padding)) → r ≡ refusal (pkrChecks memory id v nodes key padding)
-                    go₉ h = go₈ (pass-n 11 _ _ (equals (length key) (size (newKeySizes (size pkrBlocks (v .nb-dp))) (v .npkt)) (h₉ ∙ sized)) h)
+                  pub pkr-late : 13 * n < 130 + k → 11 ≡ refusal (pkrChecks memory id v nodes key padding)
+                  pkr-late h = unfilled (λ z. omega arith)
 
-                    unfilled : (130 + k + length padding ≡ 13 * n → ⊥) → 11 ≡ refusal (pkrChecks memory id v nodes key padding)
-                    unfilled h =
-                        go₉ (stop-n 11 _ _ (differs (130 + length key + length padding) (13 * size pkrBlocks (v .nb-dp))
-                        (λ z. h (ap (λ (m : ℕ). 130 + m + length padding) (sym h₉) ∙ z ∙ ap (λ (m : ℕ). 13 * m) (sym e₇)))))
+                  module _ (h₉ : 130 + k ≤ 13 * n) where
+                    pub pkr-unfilled : (length padding ≡ 13 * n - (130 + k) → ⊥) → 11 ≡ refusal (pkrChecks memory id v nodes key padding)
+                    pkr-unfilled h = unfilled (λ z. h (omega arith))
 
-                    pub pkr-late : 13 * n < 130 + k → 11 ≡ refusal (pkrChecks memory id v nodes key padding)
-                    pkr-late h = unfilled (λ z. omega arith)
-
-                    module _ (h₁₀ : 130 + k ≤ 13 * n) where
-                      pub pkr-unfilled : (length padding ≡ 13 * n - (130 + k) → ⊥) → 11 ≡ refusal (pkrChecks memory id v nodes key padding)
-                      pkr-unfilled h = unfilled (λ z. h (omega arith))
-
-                      pub pkr-filled : length padding ≡ 13 * n - (130 + k) → 0 ≡ refusal (pkrChecks memory id v nodes key padding)
-                      pkr-filled h =
-                          let whole : 130 + length key + length padding ≡ 13 * n = omega arith in
-                          go₉ (pass-n 11 _ _ (equals (130 + length key + length padding) (13 * size pkrBlocks (v .nb-dp)) (whole ∙ ap (λ (m : ℕ). 13 * m) e₇)) none-n)
+                    pub pkr-filled : length padding ≡ 13 * n - (130 + k) → 0 ≡ refusal (pkrChecks memory id v nodes key padding)
+                    pkr-filled h =
+                        let whole : 130 + length key + length padding ≡ 13 * n = omega arith in
+                        go₈ (pass-n 11 _ _ (equals (130 + length key + length padding) (13 * size pkrBlocks (v .nb-dp)) (whole ∙ ap (λ (m : ℕ). 13 * m) e₆)) none-n)

@@ -17,7 +17,8 @@ use Rattle.layouts.specs.DsmHeader.{dsmType}
 use Rattle.layouts.specs.DsmKroot.{krootLayout}
 use Rattle.layouts.proofs.Answers.{Passed, none-fails}
 use Rattle.layouts.specs.Packed.{tooWide, bytesOf, packedOn}
-use Rattle.transmitter.specs.Write.{Written, written, KrootValues, krootNumbers, krootMessage, krootChecks, writeKroot, pkrFirst, pkrSecond}
+use Rattle.transmitter.specs.Write.{Written, written, KrootValues, krootNumbers, krootMessage, krootChecks, writeKroot, pkrRows, pkrNumbers}
+use Rattle.transmitter.specs.Write.{pkrFirst, pkrSecond}
 use Rattle.transmitter.specs.Write.{PkrValues, pkrMessage, pkrChecks, writePkr}
 use Rattle.transmitter.specs.WritePromises.{krootOf, pkrOf}
 use Rattle.transmitter.specs.inner.Parts.{putAt, over, Narrow, Halves}
@@ -191,17 +192,15 @@ module _ (memory : List ℕ) (id : ℕ) (v : PkrNumbers) (nodes key padding : Li
 
   pub pkr-halves : Halves v
   pkr-halves =
-      let at : (i : ℕ) → i < 2 → getD (v .«nb_dp» ∷ v .mid ∷ []) i 0 < 2 ^ getD pkrFirst i (row "" 0 0) .width =
-      λ i h. fits-at pkrFirst (v .«nb_dp» ∷ v .mid ∷ []) i h h (pkr-checked .1 .1 .0) in
-      let and : (i : ℕ) → i < 2 → getD (v .npkt ∷ v .npkid ∷ []) i 0 < 2 ^ getD pkrSecond i (row "" 0 0) .width =
-      λ i h. fits-at pkrSecond (v .npkt ∷ v .npkid ∷ []) i h h (pkr-checked .1 .1 .1 .0) in
-      record { nb-dp = at 0 (omega arith); mid = at 1 (omega arith); npkt = and 0 (omega arith); npkid = and 1 (omega arith) }
+      let at : (i : ℕ) → i < 4 → getD (pkrNumbers (pkrOf v)) i 0 < 2 ^ getD pkrRows i (row "" 0 0) .width =
+      λ i h. fits-at pkrRows (pkrNumbers (pkrOf v)) i h h (pkr-checked .1 .1 .0) in
+      record { nb-dp = at 0 (omega arith); mid = at 1 (omega arith); npkt = at 2 (omega arith); npkid = at 3 (omega arith) }
 
   pub pkr-id : id ≤ 15
-  pkr-id = ltb-false 15 id (pkr-checked .1 .1 .1 .1 .1 .0)
+  pkr-id = ltb-false 15 id (pkr-checked .1 .1 .1 .1 .0)
 
   pub pkr-kind : 12 ≤ id
-  pkr-kind = ltb-false id 12 (pkr-checked .1 .1 .1 .1 .0)
+  pkr-kind = ltb-false id 12 (pkr-checked .1 .1 .1 .0)
 
   pub pkr-nodes-long : length nodes ≡ 128
   pkr-nodes-long = eqb-true (length nodes) 128 (not-false _ (pkr-checked .1 .0))
@@ -210,7 +209,7 @@ module _ (memory : List ℕ) (id : ℕ) (v : PkrNumbers) (nodes key padding : Li
   pkr-208 = eqb-true (length memory) 208 (not-false _ (pkr-checked .0))
 
   pkr-whole : 130 + length key + length padding ≡ 13 * size pkrBlocks (v .«nb_dp»)
-  pkr-whole = eqb-true (130 + length key + length padding) (13 * size pkrBlocks (v .«nb_dp»)) (not-false _ (pkr-checked .1 .1 .1 .1 .1 .1 .1 .1 .1 .0))
+  pkr-whole = eqb-true (130 + length key + length padding) (13 * size pkrBlocks (v .«nb_dp»)) (not-false _ (pkr-checked .1 .1 .1 .1 .1 .1 .1 .1 .0))
 
   pub pkr-fits : 130 + length key + length padding ≤ length memory
   pkr-fits = omega (arith, pkr-blocks-few (v .«nb_dp»), pkr-208, pkr-whole)

@@ -1,7 +1,7 @@
 -- The shapes that exist, computed.
 -- Assumes nothing.
 use mathlib.Core.Path.{_≡_, refl, sym, ap, _∙_, subst}
-use mathlib.Core.List.{List, [], _∷_}
+use mathlib.Core.List.{List}
 use mathlib.Core.Bool.{Bool, true, false, cond, _||_}
 use Prim.Native.Nat.{ℕ, _+_, _-_, _*_, _≤_, _<_}
 use native.Mathlib.Omega.{arith}
@@ -15,7 +15,7 @@ use Rattle.layouts.specs.DsmKroot.{krootLayout}
 use Rattle.layouts.specs.DsmPkr.{newKeySizes}
 use Rattle.layouts.proofs.Answers.{Passed, none-fails}
 use Rattle.layouts.proofs.Tables.{below, holds-below}
-use Rattle.transmitter.specs.Write.{KrootValues, krootNumbers, krootChecks, PkrValues, pkrFirst, pkrSecond, pkrChecks}
+use Rattle.transmitter.specs.Write.{KrootValues, krootNumbers, krootChecks, PkrValues, pkrRows, pkrNumbers, pkrChecks}
 use Rattle.transmitter.specs.Shapes.{shape, krootShapes, isKrootShape, isOneOf, pkrShape, pkrShapes, isPkrShape, NoOtherShape, EachShape}
 use Rattle.transmitter.proofs.Putting.{fits-at}
 
@@ -85,17 +85,17 @@ pkr-shaped : (memory : List ℕ) (id : ℕ) (v : PkrValues) (nodes key padding :
     → isOneOf isPkrShape (pkrShape (v .nb-dp) (v .npkt) (length key) (length padding)) pkrShapes ≡ true
 pkr-shaped memory id v nodes key padding e =
     let p : Passed (pkrChecks memory id v nodes key padding) = none-fails (pkrChecks memory id v nodes key padding) tt e in
-    let nb : v .nb-dp < 16 = fits-at pkrFirst (v .nb-dp ∷ v .mid ∷ []) 0 (omega arith) (omega arith) (p .1 .1 .0) in
-    let ty : v .npkt < 16 = fits-at pkrSecond (v .npkt ∷ v .npkid ∷ []) 0 (omega arith) (omega arith) (p .1 .1 .1 .0) in
-    let k : length key ≡ size (newKeySizes (size pkrBlocks (v .nb-dp))) (v .npkt) = eqb-true _ _ (not-false _ (p .1 .1 .1 .1 .1 .1 .1 .1 .0)) in
-    let whole : 130 + length key + length padding ≡ 13 * size pkrBlocks (v .nb-dp) = eqb-true _ _ (not-false _ (p .1 .1 .1 .1 .1 .1 .1 .1 .1 .0)) in
+    let nb : v .nb-dp < 16 = fits-at pkrRows (pkrNumbers v) 0 (omega arith) (omega arith) (p .1 .1 .0) in
+    let ty : v .npkt < 16 = fits-at pkrRows (pkrNumbers v) 2 (omega arith) (omega arith) (p .1 .1 .0) in
+    let k : length key ≡ size (newKeySizes (size pkrBlocks (v .nb-dp))) (v .npkt) = eqb-true _ _ (not-false _ (p .1 .1 .1 .1 .1 .1 .1 .0)) in
+    let whole : 130 + length key + length padding ≡ 13 * size pkrBlocks (v .nb-dp) = eqb-true _ _ (not-false _ (p .1 .1 .1 .1 .1 .1 .1 .1 .0)) in
     let start : ℕ = 130 + size (newKeySizes (size pkrBlocks (v .nb-dp))) (v .npkt) in
     let end : ℕ = 13 * size pkrBlocks (v .nb-dp) in
     let left : length padding ≡ end - start = omega arith in
     ap (λ (n : ℕ). isOneOf isPkrShape (pkrShape (v .nb-dp) (v .npkt) n (length padding)) pkrShapes) k
     ∙ ap (λ (n : ℕ). isOneOf isPkrShape (pkrShape (v .nb-dp) (v .npkt) (size (newKeySizes (size pkrBlocks (v .nb-dp))) (v .npkt)) n) pkrShapes) left
     ∙ is-true _
-    (past _ _ (le-ltb end start (omega arith)) (past _ _ (p .1 .1 .1 .1 .1 .1 .1 .0) (past _ _ (p .1 .1 .1 .1 .1 .1 .0) (pkr-listed (v .nb-dp) (v .npkt) nb ty))))
+    (past _ _ (le-ltb end start (omega arith)) (past _ _ (p .1 .1 .1 .1 .1 .1 .0) (past _ _ (p .1 .1 .1 .1 .1 .0) (pkr-listed (v .nb-dp) (v .npkt) nb ty))))
 
 pub no-other-shape : NoOtherShape
 no-other-shape = record { kroot = kroot-shaped; pkr = pkr-shaped }

@@ -1,5 +1,6 @@
--- Request 1: "Cut it into blocks with headers too, so that the collector can be fed from it." Of the code: any history in which blocks of what was written
--- are cut and fed to the collector, in any order and as often as one likes, each call doing what it promises (`WritePromises.antt`, `DsmPromises.antt` of `dsms`).
+-- Request 1: "Cut it into blocks with headers too, so that the collector can be fed from it." Of the code: any history in which blocks of what was
+-- written are cut and fed to the collector, in any order and as often as one likes, each call doing what it promises (`WritePromises.antt`, and
+-- `DsmPromises.antt`, `DsmView.antt` of `dsms`).
 -- Assumes nothing.
 use Prim.Native.Nat.{ℕ, _+_, _*_, _≤_, _<_}
 use mathlib.Core.List.{List, [], _∷_, _++_}
@@ -70,9 +71,19 @@ pub record ComesOut (sent : List ℕ) (id n : ℕ) : Type 0 where
       → ((x : DsmShown) → ViewDsmShown c memory x → meaning-shown x ≡ gives (0 ∷ n ∷ []))
       × ((bytes : List ℕ) → ViewDsm c memory bytes → bytes ≡ take n sent)
 
+-- No order is ruled out: from any record in which no run of this ID is going on, for any numbers of counted blocks there is such a history.
+abbrev pub Counted : ℕ → List ℕ → Type 0
+Counted c [] = Unit {0}
+Counted c (n ∷ ns) = (n < c) × Counted c ns
+
+abbrev pub AnyOrder : List ℕ → ℕ → Type 0
+AnyOrder sent id =
+    (c : CollectDsm) (memory : List ℕ) → length memory ≡ 208 → c .id ≤ 15 → (c .came && eqb (c .id) id) ≡ false
+    → (ns : List ℕ) → Counted (blocks sent id) ns → (c′ : CollectDsm) × (memory′ : List ℕ) × Fed sent id c′ memory′ ns
+
 -- After any write that is not refused.
 pub record CollectorFed : Type 0 where
   pub kroot : (memory : List ℕ) (id : ℕ) (v : KrootValues) (key signature padding : List ℕ) (r : WriteAnswer) (sent : List ℕ) (n : ℕ)
-      → WriteKroot memory id v key signature padding r sent → meaning-written r ≡ gives (id ∷ 0 ∷ n ∷ []) → ComesOut sent id n
+      → WriteKroot memory id v key signature padding r sent → meaning-written r ≡ gives (id ∷ 0 ∷ n ∷ []) → ComesOut sent id n × AnyOrder sent id
   pub pkr : (memory : List ℕ) (id : ℕ) (v : PkrValues) (nodes key padding : List ℕ) (r : WriteAnswer) (sent : List ℕ) (n : ℕ)
-      → WritePkr memory id v nodes key padding r sent → meaning-written r ≡ gives (id ∷ 1 ∷ n ∷ []) → ComesOut sent id n
+      → WritePkr memory id v nodes key padding r sent → meaning-written r ≡ gives (id ∷ 1 ∷ n ∷ []) → ComesOut sent id n × AnyOrder sent id

@@ -50,8 +50,9 @@ krootNumbers v =
 unfoldable pub krootMessage : KrootValues → List ℕ → List ℕ → List ℕ → List ℕ
 krootMessage v key signature padding = packed 13 krootLayout (krootNumbers v) ++ key ++ signature ++ padding
 
--- "Refusals, in this order: 1 (signature 64 or 132 bytes, nodes 128); 7 for a value too wide for its field, a week too, or a DSM ID of the other kind; 6 for a
--- reserved size, count or key type; 11 for a key not as long as its size or type says, KROOT padding above 12 bytes, or parts that don't fill the counted blocks."
+-- "Refusals, in this order: 1 (signature 64 or 132 bytes, nodes 128); 7 for a value too wide for its field, a week too, or a DSM ID of the other kind;
+-- 6 for a reserved size, count or key type; 11 for a key not as long as its size or type says, KROOT padding above 12 bytes, or parts that don't fill
+-- the counted blocks."
 abbrev pub krootChecks : List ℕ → ℕ → KrootValues → List ℕ → List ℕ → List ℕ → List Check
 krootChecks memory id v key signature padding =
     1 when not (eqb (length memory) 208) ∷
@@ -77,6 +78,14 @@ pub record PkrValues : Type 0 where
   pub npkt : ℕ
   pub npkid : ℕ
 
+-- the rows but for the nodes, and the values in their order
+abbrev pub pkrRows : List Field
+pkrRows = the "NB_DP" pkrLayout ∷ the "MID" pkrLayout ∷ the "NPKT" pkrLayout ∷ the "NPKID" pkrLayout ∷ []
+
+abbrev pub pkrNumbers : PkrValues → List ℕ
+pkrNumbers v = v .nb-dp ∷ v .mid ∷ v .npkt ∷ v .npkid ∷ []
+
+-- bytes 0 and 129
 abbrev pub pkrFirst : List Field
 pkrFirst = the "NB_DP" pkrLayout ∷ the "MID" pkrLayout ∷ []
 
@@ -91,8 +100,7 @@ abbrev pub pkrChecks : List ℕ → ℕ → PkrValues → List ℕ → List ℕ 
 pkrChecks memory id v nodes key padding =
     1 when not (eqb (length memory) 208) ∷
     1 when not (eqb (length nodes) 128) ∷
-    7 when tooWide pkrFirst (v .nb-dp ∷ v .mid ∷ []) ∷
-    7 when tooWide pkrSecond (v .npkt ∷ v .npkid ∷ []) ∷
+    7 when tooWide pkrRows (pkrNumbers v) ∷
     7 when ltb id 12 ∷
     7 when ltb 15 id ∷
     6 when eqb (size pkrBlocks (v .nb-dp)) 0 ∷
@@ -124,10 +132,6 @@ krootRows =
     the "TOWH_K" krootLayout ∷
     the "alpha" krootLayout ∷
     []
-
--- the rows of a PKR message but for the nodes
-abbrev pub pkrRows : List Field
-pkrRows = the "NB_DP" pkrLayout ∷ the "MID" pkrLayout ∷ the "NPKT" pkrLayout ∷ the "NPKID" pkrLayout ∷ []
 
 -- "Cut it into blocks with headers too": the number of blocks that byte 0 says, for the type that the ID has; 0 where it is reserved
 abbrev pub blocks : List ℕ → ℕ → ℕ

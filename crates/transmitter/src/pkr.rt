@@ -10,13 +10,12 @@ use layouts::dsm_pkr::NPK_BYTE;
 use layouts::dsm_pkr::NPKID;
 use layouts::dsm_pkr::NPKT;
 ghost use mathlib.Core.Path.{_≡_};
-ghost use mathlib.Core.List.{[], _∷_};
 ghost use Prim.Native.Nat.{_+_, _≤_};
 ghost use lib.ListN.{length};
 ghost use Rattle.layouts.specs.Answer.{refusal as refusalOf};
 ghost use Rattle.layouts.specs.Sizes.{size, pkrBlocks};
 ghost use Rattle.layouts.specs.Packed.{tooWide};
-ghost use Rattle.transmitter.specs.Write.{pkrFirst, pkrSecond, pkrMessage, pkrChecks};
+ghost use Rattle.transmitter.specs.Write.{pkrRows, pkrNumbers, pkrMessage, pkrChecks};
 ghost use Rattle.transmitter.specs.WritePromises.{pkrOf, WritePkr, ReadPkrValues};
 ghost use Rattle.transmitter.specs.inner.Parts.{over, Halves};
 
@@ -41,24 +40,20 @@ fn blocks_of(nb_dp: u64) -> u16
     fields::listed(dsm_pkr::BLOCKS, nb_dp)
 }
 
-// A value too wide for its field, of byte 0.
-fn first_wide(nb_dp: u64, mid: u64) -> bool
-    ensures { λ r. ⌜ r ≡ tooWide pkrFirst («nb_dp» ∷ mid ∷ []) ⌝ }
+// A value too wide for its field.
+fn is_wide(v: PkrValues) -> bool
+    ensures { λ r. ⌜ r ≡ tooWide pkrRows (pkrNumbers (pkrOf v)) ⌝ }
 {
-    if fields::is_wide(nb_dp, NB_DP) {
+    if fields::is_wide(v.nb_dp, NB_DP) {
         return true;
     }
-    fields::is_wide(mid, MID)
-}
-
-// A value too wide for its field, of the byte behind the nodes.
-fn second_wide(npkt: u64, npkid: u64) -> bool
-    ensures { λ r. ⌜ r ≡ tooWide pkrSecond (npkt ∷ npkid ∷ []) ⌝ }
-{
-    if fields::is_wide(npkt, NPKT) {
+    if fields::is_wide(v.mid, MID) {
         return true;
     }
-    fields::is_wide(npkid, NPKID)
+    if fields::is_wide(v.npkt, NPKT) {
+        return true;
+    }
+    fields::is_wide(v.npkid, NPKID)
 }
 
 // The number of the refusal; 0 for none.
@@ -71,10 +66,7 @@ fn refuses(dsm: &[u8], id: u64, v: PkrValues, nodes: &[u8], key: &[u8], padding:
     if nodes.len() != 128 {
         return 1;
     }
-    if first_wide(v.nb_dp, v.mid) {
-        return 7;
-    }
-    if second_wide(v.npkt, v.npkid) {
+    if is_wide(v) {
         return 7;
     }
     if id < 12 {
