@@ -2,19 +2,19 @@
 -- Assumes nothing.
 use mathlib.Core.Path.{_≡_, refl, sym, ap, _∙_}
 use mathlib.Core.List.{List, [], _∷_, _++_, map}
-use mathlib.Core.Bool.{Bool, true, false, cond, not, _&&_, _||_}
+use mathlib.Core.Bool.{Bool, true, false, cond, not, _||_}
 use Prim.Native.Nat.{ℕ, zero, suc, _+_, _-_, _*_, _/_, _%_, _^_, _≤_, _<_}
-use native.Mathlib.Nat.{zero-add, div-one, lt-of-lt-of-le, add-zero, add-suc, add-assoc, mul-assoc, mul-one, pow-zero, pow-suc, mod-one, one-mul}
-use native.Mathlib.Nat.{mod-eq-of-lt, le-of-suc-le-suc, not-suc-le-zero}
+use native.Mathlib.Nat.{div-one, add-zero, pow-suc, mod-one}
+use native.Mathlib.Nat.{le-of-suc-le-suc, not-suc-le-zero}
 use native.Mathlib.Numerals.{add-one}
 use native.Mathlib.Omega.{arith}
 use lib.Dec.{T, ltb, eqb, eqb→eq}
-use lib.ListN.{length, getD, take, drop, List·getD-append, length-append}
+use lib.ListN.{length, getD, List·getD-append}
 use lib.Seq.{getD-append-add}
 use lib.Pow.{high, low, shr-shr, mod-pow-add, mod-mod-pow, field as pow-field}
 use borrow.Author.Tests.{ltb-true, lt-ltb, le-ltb}
-use Rattle.layouts.specs.Answer.{Answer, gives, _when_}
-use Rattle.layouts.specs.Bits.{bit, field, Field, gapless, value, read, reach}
+use Rattle.layouts.specs.Answer.{gives}
+use Rattle.layouts.specs.Bits.{bit, field, Field, gapless, value, read}
 use Rattle.layouts.proofs.Answers.{pass, done}
 use Rattle.layouts.specs.Packed.{packedOn, bytesOf, tooWide}
 
@@ -27,7 +27,7 @@ pub pow-bytes : (k : ℕ) → 256 ^ k ≡ 2 ^ (8 * k)
 pow-bytes zero = refl
 pow-bytes (suc k) =
     let e : 8 * suc k ≡ suc (suc (suc (suc (suc (suc (suc (suc (8 * k)))))))) = omega arith in
-    rw (e, pow-suc, pow-suc, pow-suc, pow-suc, pow-suc, pow-suc, pow-suc, pow-suc, pow-suc, pow-bytes k) (omega arith)
+    rw (pow-suc 256 k, e, pow-bytes k, pow-suc, pow-suc, pow-suc, pow-suc, pow-suc, pow-suc, pow-suc, pow-suc) (omega arith)
 
 -- a byte of a number
 pub byte-at : (k n j : ℕ) → j < k → getD (bytesOf k n) j 0 ≡ n / 2 ^ (8 * (k - 1 - j)) % 2 ^ 8
@@ -134,7 +134,8 @@ packed-high n from (f ∷ fs) to [] t e =
     let g : T (gapless (from + w) fs to) = gap-head from f fs to t .1 in
     let h : from + w ≤ to = gapless-le (from + w) fs to g in
     let split : to - from ≡ (to - (from + w)) + w = omega arith in
-    rw (split, ← shr-shr) (ap (λ (x : ℕ). x / 2 ^ w) (packed-high (n * 2 ^ w) (from + w) fs to [] g (none fs) ∙ sym (add-zero (n * 2 ^ w))) ∙ high n w (lib.Pow.pow-pos w))
+    rw (split, ← shr-shr)
+    (ap (λ (x : ℕ). x / 2 ^ w) (packed-high (n * 2 ^ w) (from + w) fs to [] g (none fs) ∙ sym (add-zero (n * 2 ^ w))) ∙ high n w (lib.Pow.pow-pos w))
   where
     none : (fs : List Field) → tooWide fs [] ≡ false
     none [] = refl

@@ -1,6 +1,6 @@
--- Each call: what the function of `collectors` promises of the record under its own name, told in numbers.
+-- Each call: what the function of the crate below promises of the record under its own name, told in numbers.
 -- Assumes nothing.
-use mathlib.Core.Path.{_≡_, ap, _∙_}
+use mathlib.Core.Path.{_≡_, sym, ap, _∙_}
 use mathlib.Core.List.{List, []}
 use mathlib.Core.Bool.{Bool}
 use Prim.Native.Nat.{ℕ}
@@ -14,6 +14,8 @@ use Rattle.subframes.specs.Trace as tr
 use Rattle.subframes.specs.TracePromises as tp
 use Rattle.storage.specs.Store as m
 use Rattle.storage.specs.StorePromises as mp
+use Rattle.transmitter.specs.Write as w
+use Rattle.transmitter.specs.WritePromises as wp
 use Rattle.dsms.specs.declared.dsm.CollectDsm.{CollectDsm}
 use Rattle.dsms.specs.declared.dsm.DsmAnswer.{DsmAnswer}
 use Rattle.dsms.specs.declared.dsm.DsmFed.{DsmFed}
@@ -28,14 +30,29 @@ use Rattle.subframes.specs.declared.subframe.WordTaken.{WordTaken}
 use Rattle.storage.specs.declared.mack_storage.MackStorage.{MackStorage}
 use Rattle.storage.specs.declared.mack_storage.MackStored.{MackStored}
 use Rattle.storage.specs.declared.mack_storage.MackFound.{MackFound}
+use Rattle.transmitter.specs.declared.answer.WriteAnswer.{WriteAnswer}
+use Rattle.transmitter.specs.declared.blocks.BlockCut.{BlockCut}
+use Rattle.transmitter.specs.declared.kroot.KrootValues.{KrootValues}
+use Rattle.transmitter.specs.declared.kroot.KrootRead.{KrootRead}
+use Rattle.transmitter.specs.declared.kroot.KrootRead.the-variants.{Values as KrootIs, Refused as NoKroot}
+use Rattle.transmitter.specs.declared.pkr.PkrValues.{PkrValues}
+use Rattle.transmitter.specs.declared.pkr.PkrRead.{PkrRead}
+use Rattle.transmitter.specs.declared.pkr.PkrRead.the-variants.{Values as PkrIs, Refused as NoPkr}
 use Rattle.probe.specs.Telling.{told, copiedTo, Viewed, viewed}
 use Rattle.probe.specs.Dsm as pd
 use Rattle.probe.specs.Subframe as ps
 use Rattle.probe.specs.Store as pm
+use Rattle.probe.specs.Writers as pw
+use Rattle.probe.specs.Writers.{krootTold, pkrTold}
 use Rattle.probe.specs.declared.tell.Told.{Told}
 use Rattle.probe.specs.declared.dsm.DsmRecord.{DsmRecord}
 use Rattle.probe.specs.declared.subframe.SubframeRecord.{SubframeRecord}
 use Rattle.probe.specs.declared.store.StoreRecord.{StoreRecord}
+use Rattle.probe.specs.declared.writers.KrootRecord.{KrootRecord}
+use Rattle.probe.specs.declared.writers.KrootCalled.{KrootCalled}
+use Rattle.probe.specs.declared.writers.PkrRecord.{PkrRecord}
+use Rattle.probe.specs.declared.writers.PkrCalled.{PkrCalled}
+use Rattle.probe.proofs.Telling.{numbers}
 
 -- a view, from the answer that tells of it
 view-by : (out memory : List ℕ) {a b : Answer} {part after : List ℕ} {t : Told}
@@ -132,3 +149,60 @@ store-stored o memory c st {after = after} {r = r} eb p er et =
 pub store-got : (o : StoreRecord) (a : m.Asked) {b : MackStorage} (f : MackFound) {t : Told}
     → b ≡ pm.storageOf o → mp.GetMack b a f → t ≡ told (mp.meaning-found f) → pm.StoreGet o a t
 store-got o a f eb p et = et ∙ ap told p ∙ ap (λ (x : MackStorage). told (m.get 36 12 (mp.storageOf x) a)) eb
+
+-- the writers
+pub kroot-written : (memory : List ℕ) (id : ℕ) (v : KrootRecord) (key signature padding : List ℕ) {g : KrootValues} (x : WriteAnswer)
+    {after : List ℕ} {t : Told}
+    → g ≡ pw.krootOf v → wp.WriteKroot memory id g key signature padding x after → t ≡ told (wp.meaning-written x)
+    → pw.WriteKroot memory id v key signature padding t after
+kroot-written memory id v key signature padding x {after = after} eg p et =
+    ap (λ (y : Told). record { memory = after; answer = y }) et
+    ∙ ap pw.sent p
+    ∙ ap (λ (y : KrootValues). pw.sent (w.writeKroot memory id (wp.krootOf y) key signature padding)) eg
+
+pub pkr-written : (memory : List ℕ) (id : ℕ) (v : PkrRecord) (nodes key padding : List ℕ) {g : PkrValues} (x : WriteAnswer)
+    {after : List ℕ} {t : Told}
+    → g ≡ pw.pkrOf v → wp.WritePkr memory id g nodes key padding x after → t ≡ told (wp.meaning-written x)
+    → pw.WritePkr memory id v nodes key padding t after
+pkr-written memory id v nodes key padding x {after = after} eg p et =
+    ap (λ (y : Told). record { memory = after; answer = y }) et
+    ∙ ap pw.sent p
+    ∙ ap (λ (y : PkrValues). pw.sent (w.writePkr memory id (wp.pkrOf y) nodes key padding)) eg
+
+pub block-cut : (memory : List ℕ) (id n : ℕ) (x : BlockCut) {t : Told} → wp.CutBlock memory id n x → t ≡ told (wp.meaning-header (x .answer))
+    → pw.CutBlock memory id n (record { bytes = x .bytes; answer = t })
+block-cut memory id n x p et = ap (λ (y : Told). record { answer = y; bytes = x .bytes }) et ∙ ap pw.block13 p
+
+-- the raw numbers of a message, each case of them in a record
+pub no-kroot : {x : KrootRead} {n : ℕ} {t : Told} → x ≡ NoKroot n → t ≡ numbers 2 n 0 0
+    → _≡_ {A = KrootCalled} (record { values = pw.krootNumbers []; answer = t }) (krootTold (wp.meaning-kroot x))
+unfolding told krootTold
+no-kroot e g =
+    ap (λ (y : Told). record { values = pw.krootNumbers []; answer = y }) g ∙ sym (ap (λ (y : KrootRead). krootTold (wp.meaning-kroot y)) e)
+
+pub kroot-is : {x : KrootRead} {v : KrootValues} {k : KrootRecord} {t : Told} → x ≡ KrootIs v → k ≡ pw.krootRecordOf v → t ≡ numbers 1 0 0 0
+    → _≡_ {A = KrootCalled} (record { values = k; answer = t }) (krootTold (wp.meaning-kroot x))
+unfolding told krootTold
+kroot-is {k = k} e f g =
+    ap (λ (y : Told). record { values = k; answer = y }) g
+    ∙ ap (λ (y : KrootRecord). record { values = y; answer = numbers 1 0 0 0 }) f
+    ∙ sym (ap (λ (y : KrootRead). krootTold (wp.meaning-kroot y)) e)
+
+pub no-pkr : {x : PkrRead} {n : ℕ} {t : Told} → x ≡ NoPkr n → t ≡ numbers 2 n 0 0
+    → _≡_ {A = PkrCalled} (record { values = pw.pkrNumbers []; answer = t }) (pkrTold (wp.meaning-pkr x))
+unfolding told pkrTold
+no-pkr e g = ap (λ (y : Told). record { values = pw.pkrNumbers []; answer = y }) g ∙ sym (ap (λ (y : PkrRead). pkrTold (wp.meaning-pkr y)) e)
+
+pub pkr-is : {x : PkrRead} {v : PkrValues} {k : PkrRecord} {t : Told} → x ≡ PkrIs v → k ≡ pw.pkrRecordOf v → t ≡ numbers 1 0 0 0
+    → _≡_ {A = PkrCalled} (record { values = k; answer = t }) (pkrTold (wp.meaning-pkr x))
+unfolding told pkrTold
+pkr-is {k = k} e f g =
+    ap (λ (y : Told). record { values = k; answer = y }) g
+    ∙ ap (λ (y : PkrRecord). record { values = y; answer = numbers 1 0 0 0 }) f
+    ∙ sym (ap (λ (y : PkrRead). pkrTold (wp.meaning-pkr y)) e)
+
+pub kroot-read : (m : List ℕ) (x : KrootRead) {r : KrootCalled} → wp.ReadKrootValues m x → r ≡ krootTold (wp.meaning-kroot x) → pw.ReadKrootValues m r
+kroot-read m x p e = e ∙ ap krootTold p
+
+pub pkr-read : (m : List ℕ) (x : PkrRead) {r : PkrCalled} → wp.ReadPkrValues m x → r ≡ pkrTold (wp.meaning-pkr x) → pw.ReadPkrValues m r
+pkr-read m x p e = e ∙ ap pkrTold p

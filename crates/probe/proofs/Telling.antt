@@ -11,6 +11,7 @@ use Rattle.layouts.specs.declared.dsm_header.DsmType.the-variants.{Kroot, Pkr}
 use Rattle.dsms.specs.DsmPromises.{meaning-dsm, meaning-shown as meaning-dsm-shown}
 use Rattle.subframes.specs.SubframePromises.{meaning-subframe, meaning-shown, meaning-word}
 use Rattle.storage.specs.StorePromises.{meaning-store, meaning-found}
+use Rattle.transmitter.specs.WritePromises.{meaning-written, meaning-header}
 use Rattle.subframes.specs.declared.subframe.SubframeAnswer.{SubframeAnswer}
 use Rattle.subframes.specs.declared.subframe.SubframeAnswer.the-variants.{Refused, Nothing, Complete}
 use Rattle.subframes.specs.declared.subframe.SubframeShown.{SubframeShown}
@@ -25,6 +26,10 @@ use Rattle.storage.specs.declared.mack_storage.StoreAnswer.{StoreAnswer}
 use Rattle.storage.specs.declared.mack_storage.StoreAnswer.the-variants.{Stored, Refused as NotStored}
 use Rattle.storage.specs.declared.mack_storage.MackFound.{MackFound}
 use Rattle.storage.specs.declared.mack_storage.MackFound.the-variants.{At, Nothing as NoMack, Refused as NotFound}
+use Rattle.transmitter.specs.declared.answer.WriteAnswer.{WriteAnswer}
+use Rattle.transmitter.specs.declared.answer.WriteAnswer.the-variants.{Wrote, Refused as NotWritten}
+use Rattle.transmitter.specs.declared.blocks.BlockHeader.{BlockHeader}
+use Rattle.transmitter.specs.declared.blocks.BlockHeader.the-variants.{Byte, Refused as NotCut}
 use Rattle.probe.specs.Telling.{told, copiedTo}
 use Rattle.probe.specs.declared.tell.Told.{Told}
 
@@ -130,6 +135,32 @@ module _ {x : MackFound} {r : Told} where
   pub found-at : {f s : ℕ} → x ≡ At f s → r ≡ numbers 1 f s 0 → r ≡ told (meaning-found x)
   unfolding told
   found-at e g = g ∙ sym (ap (λ (y : MackFound). told (meaning-found y)) e)
+
+-- a message written, and a block cut of it
+module _ {x : WriteAnswer} {r : Told} where
+  pub write-refused : {n : ℕ} → x ≡ NotWritten n → r ≡ numbers 2 n 0 0 → r ≡ told (meaning-written x)
+  unfolding told
+  write-refused e g = g ∙ sym (ap (λ (y : WriteAnswer). told (meaning-written y)) e)
+
+  module _ {i n : ℕ} {t : DsmType} (e : x ≡ Wrote i t n) where
+    pub wrote-kroot : t ≡ Kroot → r ≡ numbers 1 i 0 n → r ≡ told (meaning-written x)
+    unfolding told
+    wrote-kroot f g =
+        g ∙ sym (ap (λ (y : WriteAnswer). told (meaning-written y)) (e ∙ ap (λ (k : DsmType). Wrote i k n) f))
+
+    pub wrote-pkr : t ≡ Pkr → r ≡ numbers 1 i 1 n → r ≡ told (meaning-written x)
+    unfolding told
+    wrote-pkr f g =
+        g ∙ sym (ap (λ (y : WriteAnswer). told (meaning-written y)) (e ∙ ap (λ (k : DsmType). Wrote i k n) f))
+
+module _ {x : BlockHeader} {r : Told} where
+  pub header-refused : {n : ℕ} → x ≡ NotCut n → r ≡ numbers 2 n 0 0 → r ≡ told (meaning-header x)
+  unfolding told
+  header-refused e g = g ∙ sym (ap (λ (y : BlockHeader). told (meaning-header y)) e)
+
+  pub header-byte : {n : ℕ} → x ≡ Byte n → r ≡ numbers 1 n 0 0 → r ≡ told (meaning-header x)
+  unfolding told
+  header-byte e g = g ∙ sym (ap (λ (y : BlockHeader). told (meaning-header y)) e)
 
 -- the copy of a view
 pub copy-short : (out bytes : List ℕ) → length out < length bytes → out ≡ copiedTo out bytes

@@ -11,6 +11,7 @@ use Rattle.probe.specs.Telling.{Viewed}
 use Rattle.probe.specs.Dsm as pd
 use Rattle.probe.specs.Subframe as ps
 use Rattle.probe.specs.Store as pm
+use Rattle.probe.specs.Writers as pw
 use Rattle.probe.specs.declared.tell.Told.{Told}
 use Rattle.probe.specs.declared.dsm.DsmRecord.{DsmRecord}
 use Rattle.probe.specs.declared.dsm.DsmCalled.{DsmCalled}
@@ -21,6 +22,11 @@ use Rattle.probe.specs.declared.subframe.HkrootTold.{HkrootTold}
 use Rattle.probe.specs.declared.subframe.WordTold.{WordTold}
 use Rattle.probe.specs.declared.store.StoreRecord.{StoreRecord}
 use Rattle.probe.specs.declared.store.StoreCalled.{StoreCalled}
+use Rattle.probe.specs.declared.writers.KrootRecord.{KrootRecord}
+use Rattle.probe.specs.declared.writers.KrootCalled.{KrootCalled}
+use Rattle.probe.specs.declared.writers.PkrRecord.{PkrRecord}
+use Rattle.probe.specs.declared.writers.PkrCalled.{PkrCalled}
+use Rattle.probe.specs.declared.writers.BlockCalled.{BlockCalled}
 
 -- the records are their states without the lent bytes
 abbrev dsm-back : d.State → DsmRecord
@@ -108,3 +114,23 @@ probe-store-store a memory c r q x y p o =
 
 pub probe-store-get : (a : StoreRecord) (c : m.Asked) (r q : Told) → pm.StoreGet a c r → pm.StoreGet a c q → r ≡ q
 probe-store-get a c r q p o = p ∙ sym o
+
+-- the writers
+pub probe-write-kroot : (memory : List ℕ) (id : ℕ) (v : KrootRecord) (key signature padding : List ℕ) (r q : Told) (x y : List ℕ)
+    → pw.WriteKroot memory id v key signature padding r x → pw.WriteKroot memory id v key signature padding q y → (r ≡ q) × (x ≡ y)
+probe-write-kroot memory id v key signature padding r q x y p o =
+    let e = p ∙ sym o in (ap (λ (k : pw.Sent). k .answer) e, ap (λ (k : pw.Sent). k .memory) e)
+
+pub probe-write-pkr : (memory : List ℕ) (id : ℕ) (v : PkrRecord) (nodes key padding : List ℕ) (r q : Told) (x y : List ℕ)
+    → pw.WritePkr memory id v nodes key padding r x → pw.WritePkr memory id v nodes key padding q y → (r ≡ q) × (x ≡ y)
+probe-write-pkr memory id v nodes key padding r q x y p o =
+    let e = p ∙ sym o in (ap (λ (k : pw.Sent). k .answer) e, ap (λ (k : pw.Sent). k .memory) e)
+
+pub probe-block : (memory : List ℕ) (id n : ℕ) (r q : BlockCalled) → pw.CutBlock memory id n r → pw.CutBlock memory id n q → r ≡ q
+probe-block memory id n r q p o = ap (λ (k : pw.Block13). record { bytes = k .bytes; answer = k .answer }) (p ∙ sym o)
+
+pub probe-kroot-values : (m : List ℕ) (r q : KrootCalled) → pw.ReadKrootValues m r → pw.ReadKrootValues m q → r ≡ q
+probe-kroot-values m r q p o = p ∙ sym o
+
+pub probe-pkr-values : (m : List ℕ) (r q : PkrCalled) → pw.ReadPkrValues m r → pw.ReadPkrValues m q → r ≡ q
+probe-pkr-values m r q p o = p ∙ sym o

@@ -2,3 +2,4 @@ pub mod Telling
 pub mod Subframe
 pub mod Dsm
 pub mod Store
+pub mod Writers

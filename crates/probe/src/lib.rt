@@ -1,5 +1,6 @@
-// The collectors for tests and measurements in other languages: records go by value, an answer is four numbers.
+// The collectors and the writers for tests and measurements in other languages: records go by value, an answer is four numbers.
 mod dsm;
 mod store;
 mod subframe;
 mod tell;
+mod writers;

@@ -7,10 +7,13 @@ use storage::mack_storage::StoreAnswer;
 use subframes::subframe::SubframeAnswer;
 use subframes::subframe::SubframeShown;
 use subframes::subframe::WordAnswer;
+use transmitter::answer::WriteAnswer;
+use transmitter::blocks::BlockHeader;
 ghost use mathlib.Core.Path.{_≡_};
 ghost use Rattle.dsms.specs.DsmPromises.{meaning-dsm, meaning-shown as meaning-dsm-shown};
 ghost use Rattle.subframes.specs.SubframePromises.{meaning-subframe, meaning-shown, meaning-word};
 ghost use Rattle.storage.specs.StorePromises.{meaning-store, meaning-found};
+ghost use Rattle.transmitter.specs.WritePromises.{meaning-written, meaning-header};
 ghost use Rattle.probe.specs.Telling.{told, copiedTo};
 
 // Kind 0 is nothing, 1 an answer with at most three numbers, zeros behind them, 2 a refusal with its number first.
@@ -48,7 +51,7 @@ fn nothing() -> Told
     }
 }
 
-fn refused(n: u8) -> Told
+pub(crate) fn refused(n: u8) -> Told
     ensures { λ r. ⌜ r ≡ record { kind = 2; first = n; second = 0; third = 0 } ⌝ }
 {
     Told {
@@ -59,7 +62,7 @@ fn refused(n: u8) -> Told
     }
 }
 
-fn given(first: u64, second: u64, third: u64) -> Told
+pub(crate) fn given(first: u64, second: u64, third: u64) -> Told
     ensures { λ r. ⌜ r ≡ record { kind = 1; first = first; second = second; third = third } ⌝ }
 {
     Told {
@@ -143,5 +146,30 @@ pub(crate) fn found(answer: MackFound) -> Told
         MackFound::Refused(n) => refused(n),
         MackFound::Nothing => nothing(),
         MackFound::At { first, status } => given(first as u64, status as u64, 0),
+    }
+}
+
+pub(crate) fn written(answer: WriteAnswer) -> Told
+    ensures { λ r. ⌜ r ≡ told (meaning-written answer) ⌝ }
+{
+    match answer {
+        WriteAnswer::Refused(n) => refused(n),
+        WriteAnswer::Wrote {
+            id,
+            dsm_type,
+            bytes,
+        } => match dsm_type {
+            DsmType::Kroot => given(id as u64, 0, bytes as u64),
+            DsmType::Pkr => given(id as u64, 1, bytes as u64),
+        },
+    }
+}
+
+pub(crate) fn header(answer: BlockHeader) -> Told
+    ensures { λ r. ⌜ r ≡ told (meaning-header answer) ⌝ }
+{
+    match answer {
+        BlockHeader::Refused(n) => refused(n),
+        BlockHeader::Byte(n) => given(n as u64, 0, 0),
     }
 }

@@ -13,7 +13,7 @@ use Rattle.layouts.specs.Answer.{Answer, nothing, gives, Check, refusal, answer
 use Rattle.layouts.specs.Bits.{the, value}
 use Rattle.layouts.specs.Packed.{packedOn}
 use Rattle.layouts.specs.Sizes.{size, krootBlocks, pkrBlocks}
-use Rattle.layouts.specs.DsmHeader.{dsmHeader, dsmType}
+use Rattle.layouts.specs.DsmHeader.{dsmType}
 use Rattle.layouts.specs.DsmKroot.{krootLayout}
 use Rattle.layouts.specs.DsmPkr.{pkrLayout}
 use Rattle.layouts.proofs.Answers.{Passed, none-fails, converse}
@@ -29,7 +29,7 @@ use Rattle.dsms.proofs.Blocks.{counted-few, admitted, other-block, feed-taken, 
 use Rattle.dsms.proofs.DsmSound.{Sound, sound-fed}
 use Rattle.dsms.proofs.DsmRecovery.{dsm-recovers, dsm-shows}
 use Rattle.dsms.proofs.DsmHistory.{feeding-is, after-more, code-recovers, any-calls}
-use Rattle.transmitter.specs.Write.{Written, written, KrootValues, PkrValues, blocks, cut, cutChecks, krootMessage, krootChecks, writeKroot}
+use Rattle.transmitter.specs.Write.{Written, written, KrootValues, PkrValues, blocks, header, cut, cutChecks, krootMessage, krootChecks, writeKroot}
 use Rattle.transmitter.specs.Write.{pkrMessage, pkrChecks, writePkr}
 use Rattle.transmitter.specs.WritePromises.{krootOf, pkrOf, meaning-header, CutBlock}
 use Rattle.transmitter.specs.Sending.{IsCut, Fed, idle, called, refused-one, misfit, viewed, among, allOf, ComesOut, Counted, AnyOrder, CollectorFed}
@@ -64,7 +64,8 @@ start s d i h e same b =
 refused-call : (s : State) (d : Call) → length (s .memory) ≡ 208 → isAdmitted d ≡ false → fedTo s d .state ≡ s
 refused-call s d l e =
     sym (ap (λ (f : dsm.Fed). f .state)
-    (feed-refused s (d .header) (d .block) (other-block (s .id) (s .memory) (d .block) l (eqb-false (length (d .block)) 13 e)) (λ z. absurd (omega (arith, z)))))
+    (feed-refused s (d .header) (d .block) (other-block (s .id) (s .memory) (d .block) l (eqb-false (length (d .block)) 13 e))
+    (λ z. absurd (omega (arith, z)))))
 
 module _ (sent : List ℕ) (id : ℕ) (long : length sent ≡ 208) (few : id ≤ 15) where
   abbrev c# : ℕ
@@ -109,14 +110,14 @@ module _ (sent : List ℕ) (id : ℕ) (long : length sent ≡ 208) (few : id ≤
     counted-one : k < c#
     unfolding cut
     counted-one =
-        ltb-true k c# (not-false _ (converse (cutChecks sent id k) (packedOn 0 dsmHeader (id ∷ k ∷ []) ∷ []) tt (sym given) .1 .1 .1 .1 .0))
+        ltb-true k c# (not-false _ (converse (cutChecks sent id k) (header id k ∷ []) tt (sym given) .1 .1 .1 .1 .0))
 
     its-call : d ≡ call k
     its-call =
-        let header : d .header ≡ id * 16 + k = first-gives (sym given ∙ sym (ap (λ (c : Copied). c .answer) (is-cut k counted-one))) in
+        let same : d .header ≡ id * 16 + k = first-gives (sym given ∙ sym (ap (λ (c : Copied). c .answer) (is-cut k counted-one))) in
         let block : d .block ≡ take 13 (drop (13 * k) sent) =
         sym (x .3) ∙ ap (λ (c : Copied). c .bytes) (x .1) ∙ sym (ap (λ (c : Copied). c .bytes) (is-cut k counted-one)) in
-        ap (λ (n : ℕ). made n (d .block)) header ∙ ap (made (id * 16 + k)) block
+        ap (λ (n : ℕ). made n (d .block)) same ∙ ap (made (id * 16 + k)) block
       where
         first-gives : {a b : ℕ} → gives (a ∷ []) ≡ gives (b ∷ []) → a ≡ b
         first-gives e = cc
@@ -156,7 +157,8 @@ module _ (sent : List ℕ) (id : ℕ) (long : length sent ≡ 208) (few : id ≤
         base = memory;
         base-long = l;
         next = λ k g.
-            start (state c memory) (call k) id (record { d208 = l; id-low = low }) e (sent-calls.id-of sent id long few k g) (sent-calls.block-long sent id long few k g);
+            start (state c memory) (call k) id (record { d208 = l; id-low = low }) e (sent-calls.id-of sent id long few k g)
+            (sent-calls.block-long sent id long few k g);
         same = λ g. absurd (omega arith);
       }
   held (called {c} {c′} {memory} {memory′} {ns} {d} {a} k f x call′) =
@@ -316,7 +318,8 @@ unfolding counted
 pkr-count m d id n h l e = rw (le-ltb id 12 h) (ap (size pkrBlocks) (field-front m (drop (length m) d) 0 4 l ∙ e))
 
 kroot-fed : (memory : List ℕ) (id : ℕ) (v : KrootValues) (key signature padding : List ℕ) (a : Answer) (sent : List ℕ) (n : ℕ)
-    → _≡_ {A = Written} (record { memory = sent; answer = a }) (writeKroot memory id v key signature padding) → a ≡ gives (id ∷ 0 ∷ n ∷ []) → ComesOut sent id n × AnyOrder sent id
+    → _≡_ {A = Written} (record { memory = sent; answer = a }) (writeKroot memory id v key signature padding) → a ≡ gives (id ∷ 0 ∷ n ∷ [])
+    → ComesOut sent id n × AnyOrder sent id
 unfolding writeKroot
 kroot-fed memory id v key signature padding a sent n w e =
     let checks = krootChecks memory id v key signature padding in
@@ -331,7 +334,8 @@ kroot-fed memory id v key signature padding a sent n w e =
     (omega arith) (omega arith) (whole ∙ ap (λ (x : ℕ). 13 * x) (sym (kroot-count message memory id (v .nb-dk) few (omega arith) nb)))
 
 pkr-fed : (memory : List ℕ) (id : ℕ) (v : PkrValues) (nodes key padding : List ℕ) (a : Answer) (sent : List ℕ) (n : ℕ)
-    → _≡_ {A = Written} (record { memory = sent; answer = a }) (writePkr memory id v nodes key padding) → a ≡ gives (id ∷ 1 ∷ n ∷ []) → ComesOut sent id n × AnyOrder sent id
+    → _≡_ {A = Written} (record { memory = sent; answer = a }) (writePkr memory id v nodes key padding) → a ≡ gives (id ∷ 1 ∷ n ∷ [])
+    → ComesOut sent id n × AnyOrder sent id
 unfolding writePkr
 pkr-fed memory id v nodes key padding a sent n w e =
     let checks = pkrChecks memory id v nodes key padding in

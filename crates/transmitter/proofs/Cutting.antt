@@ -10,9 +10,7 @@ use lib.ListN.{length, take, drop, replicate}
 use borrow.Author.Tests.{ltb-false, eqb-true, lt-ltb, le-ltb, eq-eqb, ne-eqb, not-false}
 use Rattle.layouts.specs.Answer.{refused, gives, refusal, answered, Copied, answeredWith}
 use Rattle.layouts.specs.Bits.{the}
-use Rattle.layouts.specs.Packed.{packedOn}
 use Rattle.layouts.specs.Sizes.{size, krootBlocks, pkrBlocks, readSize}
-use Rattle.layouts.specs.DsmHeader.{dsmHeader}
 use Rattle.layouts.specs.DsmKroot.{krootLayout}
 use Rattle.layouts.specs.DsmPkr.{pkrLayout}
 use Rattle.layouts.specs.Meaning.{meaning-number}
@@ -21,7 +19,7 @@ use Rattle.layouts.specs.declared.answer.Number.the-variants.{Value, Refused}
 use Rattle.layouts.proofs.Answers.{Passed, none-fails, stop-n, pass-n, none-n, differs, equals}
 use Rattle.dsms.specs.Dsm.{counted}
 use Rattle.dsms.proofs.Blocks.{size-given, size-none}
-use Rattle.transmitter.specs.Write.{cut, cutChecks, blocks}
+use Rattle.transmitter.specs.Write.{header, cut, cutChecks, blocks}
 
 -- the count of byte 0, by the reader of `layouts`
 module _ (m : List ℕ) (id : ℕ) (l : length m ≡ 208) {x : Number} {n : ℕ} where
@@ -79,7 +77,7 @@ module _ (memory : List ℕ) (id n : ℕ) where
       where
         go : (q : ℕ) → refusal (cutChecks memory id n) ≡ q → (q ≡ 0 → ⊥)
             → _≡_ {A = Copied} (record { answer = refused q; bytes = replicate 13 0 })
-            (answeredWith (cutChecks memory id n) (gives (packedOn 0 dsmHeader (id ∷ n ∷ []) ∷ [])) (take 13 (drop (13 * n) memory)) (replicate 13 0))
+            (answeredWith (cutChecks memory id n) (gives (header id n ∷ [])) (take 13 (drop (13 * n) memory)) (replicate 13 0))
         go zero e ne = absurd (ne refl)
         go (suc q) e ne = rw (e, eqb·suc-zero)
 
@@ -96,7 +94,7 @@ module _ (memory : List ℕ) (id n : ℕ) where
       pub cut-fits : 13 * n + 13 ≤ length memory
       cut-fits = omega (arith, eqb-true (length memory) 208 (not-false _ (checked .0)), cut-few)
 
-      pub cut-given : {h : ℕ} {l : List ℕ} → h ≡ packedOn 0 dsmHeader (id ∷ n ∷ []) → l ≡ take 13 (drop (13 * n) memory)
+      pub cut-given : {h : ℕ} {l : List ℕ} → h ≡ header id n → l ≡ take 13 (drop (13 * n) memory)
           → _≡_ {A = Copied} (record { answer = gives (h ∷ []); bytes = l }) (cut memory id n)
       unfolding cut answered
       cut-given eh el = rw (sym e ∙ z, el, eh)

@@ -68,7 +68,8 @@ module _ (m : List ℕ) (v : KrootValues) (key signature padding : List ℕ) (f 
       let says : (i : ℕ) → getD (map (λ (f : Field). value f m) krootLayout) i 0 ≡ getD (krootNumbers v) i 0 =
       λ i. ap (λ (l : List ℕ). getD l i 0) (f .values) in
       and-all (and-all (and-all (kroot-given (kroot-reads m v key signature padding f))
-      (eq-eqb (length m) (13 * size krootBlocks (value (the "NB_DK" krootLayout) m)) (f .long ∙ f .whole ∙ ap (λ (n : ℕ). 13 * size krootBlocks n) (sym (says 0)))))
+      (eq-eqb (length m) (13 * size krootBlocks (value (the "NB_DK" krootLayout) m))
+      (f .long ∙ f .whole ∙ ap (λ (n : ℕ). 13 * size krootBlocks n) (sym (says 0)))))
       (eq-eqb (value (the "Reserved 1" krootLayout) m) 0 (says 3)))
       (eq-eqb (value (the "Reserved 2" krootLayout) m) 0 (says 9))
 
@@ -88,8 +89,12 @@ module _ (m : List ℕ) (v : PkrValues) (nodes key padding : List ℕ) (f : PkrF
 
   pkr-given : PkrReads m v nodes key padding → allGiven (pkrAnswers m) ≡ true
   pkr-given r =
-      next _ (r .count-read) (next _ (r .message-read) (next _ (node-given 0 (omega arith)) (next _ (node-given 1 (omega arith)) (next _ (node-given 2 (omega arith)) (next _ (node-given 3 (omega arith))
-      (next _ (r .type-as-it-stands) (next _ (r .type-read) (next _ (r .key-id-read) (next _ (r .key-size-read) (next _ (r .key-shown) (next _ (r .leaf-shown) (next _ (r .padding-shown) none-left))))))))))))
+      next _ (r .count-read)
+      (next _ (r .message-read)
+      (next _ (node-given 0 (omega arith)) (next _ (node-given 1 (omega arith)) (next _ (node-given 2 (omega arith)) (next _ (node-given 3 (omega arith))
+      (next _ (r .type-as-it-stands)
+      (next _ (r .type-read)
+      (next _ (r .key-id-read) (next _ (r .key-size-read) (next _ (r .key-shown) (next _ (r .leaf-shown) (next _ (r .padding-shown) none-left))))))))))))
 
   pub pkr-good : isGoodPkr m ≡ true
   unfolding isGoodPkr

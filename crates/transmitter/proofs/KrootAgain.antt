@@ -76,7 +76,8 @@ module _ (m : List ℕ) (good : isGoodKroot m ≡ true) where
   -- the head is there
   pub head-there : 104 ≤ 8 * length m
   head-there =
-      ltb-false (8 * length m) 104 (none-fails (reach (the "alpha" krootLayout) m ∷ []) tt (given-none _ (value (the "alpha" krootLayout) m ∷ []) (at 12 (omega arith))) .0)
+      ltb-false (8 * length m) 104
+      (none-fails (reach (the "alpha" krootLayout) m ∷ []) tt (given-none _ (value (the "alpha" krootLayout) m ∷ []) (at 12 (omega arith))) .0)
 
   count-some : size krootBlocks (value (the "NB_DK" krootLayout) m) ≡ 0 → ⊥
   count-some =
@@ -174,7 +175,8 @@ module _ (m : List ℕ) (good : isGoodKroot m ≡ true) where
         refl (λ z. tag-some (sym (ap (size tagSizes) (says 7)) ∙ z))
         (lk ∙ sym (ap (size keySizes) (says 6)))
         (omega (arith, lp, rest-few))
-        (ap (λ (n : ℕ). 13 + n + length signature + length padding) (ap (size keySizes) (says 6)) ∙ omega (arith, ls, lp, all-of-it, whole) ∙ ap (λ (n : ℕ). 13 * size krootBlocks n) (sym (says 0)))
+        (ap (λ (n : ℕ). 13 + n + length signature + length padding) (ap (size keySizes) (says 6)) ∙ omega (arith, ls, lp, all-of-it, whole) ∙ ap
+        (λ (n : ℕ). 13 * size krootBlocks n) (sym (says 0)))
 
     message-is : krootMessage (krootRead m) key signature padding ≡ m
     unfolding krootMessage
@@ -187,4 +189,8 @@ module _ (m : List ℕ) (good : isGoodKroot m ≡ true) where
         ∙ ap (λ (x : List ℕ). writeKroot memory id (krootRead m) key x (shown m (paddingPart m))) signature-is
         ∙ ap (λ (x : List ℕ). writeKroot memory id (krootRead m) key signature x) padding-is
         ∙ written-is (krootChecks memory id (krootRead m) key signature padding) memory (krootMessage (krootRead m) key signature padding) id (sym none-stops)
-        ∙ ap (λ (x : List ℕ). record { memory = x ++ drop (length x) memory; answer = gives (id ∷ Rattle.layouts.specs.DsmHeader.dsmType id ∷ length x ∷ []) }) message-is
+        ∙ ap (λ (x : List ℕ). record {
+          memory = x ++ drop (length x) memory;
+          answer = gives
+              (id ∷ Rattle.layouts.specs.DsmHeader.dsmType id ∷ length x ∷ []);
+        }) message-is

@@ -136,7 +136,8 @@ module _ (m : List ℕ) (v : KrootValues) (key signature padding : List ℕ) (f 
       (pass 6 _ _ _ (ne-eqb (keyBytes m) 0 (λ z. f .key-some (sym (ap (size keySizes) (says 6)) ∙ z)))
       (pass 5 _ _ _ (le-ltb (length m) (13 + keyBytes m) (omega (arith, key-bytes, f .long)))
       (pass 11 _ _ _ (ne-eqb (signatureBytes m) 0 signature-some)
-      (pass 5 _ _ _ (le-ltb (length m) (13 + keyBytes m + signatureBytes m + (length m - (13 + keyBytes m + signatureBytes m))) (omega (arith, key-bytes, signature-bytes, f .long)))
+      (pass 5 _ _ _ (le-ltb (length m) (13 + keyBytes m + signatureBytes m + (length m - (13 + keyBytes m + signatureBytes m)))
+      (omega (arith, key-bytes, signature-bytes, f .long)))
       (done _ (rw (signature-bytes, key-bytes, left))))))))
 
   pub kroot-reads : KrootReads m v key signature padding
@@ -174,13 +175,16 @@ module _ (memory : List ℕ) (id : ℕ) (v : KrootValues) (key signature padding
       record {
         values =
             rows-say (head ++ key ++ signature ++ padding) 0 0 krootLayout 104 (krootNumbers v) tt (p .1 .1 .0) refl
-            (λ s w g h. ap (λ (l : List ℕ). field l s w) apart ∙ field-front head (key ++ (signature ++ padding)) s w (omega (arith, h, h13)) ∙ field-of-bytes 13 number s w h);
+            (λ s w g h. ap (λ (l : List ℕ). field l s w) apart ∙ field-front head (key ++ (signature ++ padding)) s w (omega (arith, h, h13))
+            ∙ field-of-bytes 13 number s w h);
         long = simp length-append (omega (arith, h13));
         key-there =
-            ap (λ (l : List ℕ). take (length key) (drop 13 l)) (append-assoc (head ++ key) signature padding) ∙ part-there head key (signature ++ padding) 13 h13;
+            ap (λ (l : List ℕ). take (length key) (drop 13 l)) (append-assoc (head ++ key) signature padding) ∙ part-there head key
+            (signature ++ padding) 13 h13;
         signature-there = part-there (head ++ key) signature padding (13 + length key) (simp length-append (omega (arith, h13)));
         padding-there =
-            ap (take (length padding)) (drop-at (head ++ key ++ signature) padding (13 + length key + length signature) (simp length-append (omega (arith, h13)))) ∙ take-length padding;
+            ap (take (length padding))
+            (drop-at (head ++ key ++ signature) padding (13 + length key + length signature) (simp length-append (omega (arith, h13)))) ∙ take-length padding;
         count-some = eqb-false _ 0 (p .1 .1 .1 .1 .0);
         key-some = eqb-false _ 0 (p .1 .1 .1 .1 .1 .0);
         tag-some = eqb-false _ 0 (p .1 .1 .1 .1 .1 .1 .0);

@@ -103,9 +103,11 @@ module _ (memory : List ℕ) (id : ℕ) (v : KrootValues) (key signature padding
                         → 11 ≡ refusal (krootChecks memory id v key signature padding)
                     kroot-unfilled h =
                         go₈ (pass-n 11 _ _ (le-ltb 12 (length padding) h₉)
-                        (stop-n 11 _ _ (differs (13 + length key + length signature + length padding) (13 * size krootBlocks (v .nb-dk)) (λ z. h (rw (← h₈, e₅) z)))))
+                        (stop-n 11 _ _ (differs (13 + length key + length signature + length padding) (13 * size krootBlocks (v .nb-dk))
+                        (λ z. h (rw (← h₈, e₅) z)))))
 
                     pub kroot-filled : 13 + k + length signature + length padding ≡ 13 * n → 0 ≡ refusal (krootChecks memory id v key signature padding)
                     kroot-filled h =
                         go₈ (pass-n 11 _ _ (le-ltb 12 (length padding) h₉)
-                        (pass-n 11 _ _ (equals (13 + length key + length signature + length padding) (13 * size krootBlocks (v .nb-dk)) (rw (h₈, ← e₅) h)) none-n))
+                        (pass-n 11 _ _ (equals (13 + length key + length signature + length padding) (13 * size krootBlocks (v .nb-dk))
+                        (rw (h₈, ← e₅) h)) none-n))

@@ -56,7 +56,8 @@ module _ (m : List ℕ) (good : isGoodPkr m ≡ true) where
   -- the head is there
   pub head-there : 1040 ≤ 8 * length m
   head-there =
-      ltb-false (8 * length m) 1040 (none-fails (reach (the "NPKID" pkrLayout) m ∷ []) tt (given-none _ (value (the "NPKID" pkrLayout) m ∷ []) (at 8 (omega arith))) .0)
+      ltb-false (8 * length m) 1040
+      (none-fails (reach (the "NPKID" pkrLayout) m ∷ []) tt (given-none _ (value (the "NPKID" pkrLayout) m ∷ []) (at 8 (omega arith))) .0)
 
   passed : Passed (paddingChecks m ++ (5 when ltb (length m) (130 + keyBytes m + (13 * count m - (130 + keyBytes m))) ∷ []))
   unfolding paddingPart
@@ -153,7 +154,11 @@ module _ (m : List ℕ) (good : isGoodPkr m ≡ true) where
         ∙ ap (λ (x : List ℕ). writePkr memory id (pkrRead m) nodes x (shown m (paddingPart m))) key-is
         ∙ ap (λ (x : List ℕ). writePkr memory id (pkrRead m) nodes key x) padding-is
         ∙ written-is (pkrChecks memory id (pkrRead m) nodes key padding) memory (pkrMessage (pkrRead m) nodes key padding) id (sym none-stops)
-        ∙ ap (λ (x : List ℕ). record { memory = x ++ drop (length x) memory; answer = gives (id ∷ Rattle.layouts.specs.DsmHeader.dsmType id ∷ length x ∷ []) }) message-is
+        ∙ ap (λ (x : List ℕ). record {
+          memory = x ++ drop (length x) memory;
+          answer = gives
+              (id ∷ Rattle.layouts.specs.DsmHeader.dsmType id ∷ length x ∷ []);
+        }) message-is
 
 pub writes-back : WritesBackExactlyIf
 writes-back memory id m long b =

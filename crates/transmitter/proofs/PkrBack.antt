@@ -122,7 +122,8 @@ pub typed-some : (b t : ℕ) → 13 ≤ b → (length (naming keyTypes t) ≡ 0 
 unfolding keyTypes
 typed-some b t h = go (eqb t 1) (eqb t 3) (eqb t 4)
   where
-    go : (x y z : Bool) → (length (cond x (t ∷ []) (cond y (t ∷ []) (cond z (t ∷ []) []))) ≡ 0 → ⊥) → _≡_ {A = ℕ} (cond x 33 (cond y 67 (cond z (13 * b - 130) 0))) 0 → ⊥
+    go : (x y z : Bool) → (length (cond x (t ∷ []) (cond y (t ∷ []) (cond z (t ∷ []) []))) ≡ 0 → ⊥) → _≡_ {A = ℕ}
+        (cond x 33 (cond y 67 (cond z (13 * b - 130) 0))) 0 → ⊥
     go true y z ne e = omega arith
     go false true z ne e = omega arith
     go false false true ne e = omega arith
@@ -168,7 +169,8 @@ module _ (memory : List ℕ) (id : ℕ) (v : PkrValues) (nodes key padding : Lis
       let apart2 : m ≡ (a ++ nodes) ++ (b ++ (key ++ padding)) = simp append-assoc in
       let v1 : map (λ (f : Field). value f m) pkrFirst ≡ v .nb-dp ∷ v .mid ∷ [] =
       rows-say m 0 0 pkrFirst 8 (v .nb-dp ∷ v .mid ∷ []) tt (both .0) refl
-      (λ s w g h. ap (λ (l : List ℕ). field l s w) apart1 ∙ field-front a (nodes ++ (b ++ (key ++ padding))) s w (omega (arith, h, la)) ∙ field-of-bytes 1 n1 s w h) in
+      (λ s w g h. ap (λ (l : List ℕ). field l s w) apart1 ∙ field-front a (nodes ++ (b ++ (key ++ padding))) s w (omega (arith, h, la))
+      ∙ field-of-bytes 1 n1 s w h) in
       let v2 : map (λ (f : Field). value f m) pkrSecond ≡ v .npkt ∷ v .npkid ∷ [] =
       rows-say m 0 1032 pkrSecond 1040 (v .npkt ∷ v .npkid ∷ []) tt (both .1) refl
       (λ s w g h.
@@ -203,7 +205,8 @@ module _ (memory : List ℕ) (id : ℕ) (v : PkrValues) (nodes key padding : Lis
             ∙ take-at (b ++ key) padding (1 + length key) (simp length-append (omega (arith, lb)))
             ∙ ap (λ (l : List ℕ). l ++ key) (half-bytes (v .npkt) (v .npkid) (two .0) (two .1));
         padding-there =
-            ap (take (length padding)) (drop-at (a ++ nodes ++ b ++ key) padding (130 + length key) (simp length-append (omega (arith, la, lb, ln)))) ∙ take-length padding;
+            ap (take (length padding)) (drop-at (a ++ nodes ++ b ++ key) padding (130 + length key) (simp length-append (omega (arith, la, lb, ln))))
+            ∙ take-length padding;
         count-some = some;
         key-some = λ z. typed-some (size pkrBlocks (v .nb-dp)) (v .npkt) (blocks-many (v .nb-dp) some) typed (sym keys ∙ z);
         key-long = keys;

@@ -131,4 +131,5 @@ module _ (memory : List ℕ) (id : ℕ) (v : PkrValues) (nodes key padding : Lis
                     pub pkr-filled : length padding ≡ 13 * n - (130 + k) → 0 ≡ refusal (pkrChecks memory id v nodes key padding)
                     pkr-filled h =
                         let whole : 130 + length key + length padding ≡ 13 * n = omega arith in
-                        go₈ (pass-n 11 _ _ (equals (130 + length key + length padding) (13 * size pkrBlocks (v .nb-dp)) (whole ∙ ap (λ (m : ℕ). 13 * m) e₆)) none-n)
+                        go₈ (pass-n 11 _ _ (equals (130 + length key + length padding) (13 * size pkrBlocks (v .nb-dp))
+                        (whole ∙ ap (λ (m : ℕ). 13 * m) e₆)) none-n)

@@ -121,7 +121,8 @@ narrow v e =
     }
 
 -- what a KROOT message that is not refused meets
-module _ (memory : List ℕ) (id : ℕ) (v : KrootNumbers) (key signature padding : List ℕ) {q : ℕ} (e : q ≡ refusal (krootChecks memory id (krootOf v) key signature padding)) (z : q ≡ 0) where
+module _ (memory : List ℕ) (id : ℕ) (v : KrootNumbers) (key signature padding : List ℕ) {q : ℕ}
+    (e : q ≡ refusal (krootChecks memory id (krootOf v) key signature padding)) (z : q ≡ 0) where
   checked : Passed (krootChecks memory id (krootOf v) key signature padding)
   checked = none-fails (krootChecks memory id (krootOf v) key signature padding) tt (sym e ∙ z)
 
@@ -162,7 +163,8 @@ pub kroot-written : (memory : List ℕ) (id : ℕ) (v : KrootValues) (key signat
     → _≡_ {A = Written} (record { memory = after; answer = gives (id ∷ 0 ∷ n ∷ []) }) (writeKroot memory id v key signature padding)
 unfolding writeKroot
 kroot-written memory id v key signature padding e z a h n =
-    write-done _ memory (krootMessage v key signature padding) id 0 e z a (ap (λ (b : Bool). cond b 0 1) (lt-ltb id 12 (omega arith))) (n ∙ sym (length-kroot v key signature padding))
+    write-done _ memory (krootMessage v key signature padding) id 0 e z a (ap (λ (b : Bool). cond b 0 1) (lt-ltb id 12 (omega arith)))
+    (n ∙ sym (length-kroot v key signature padding))
 
 -- the same of a PKR message
 pub pkr-put : (v : PkrValues) (nodes key padding d : List ℕ) (x y : ℕ) {a b c e f : List ℕ} {k : ℕ} → length nodes ≡ 128
@@ -186,7 +188,8 @@ pkr-put v nodes key padding d x y {k = k} n ex ey ea eb ec ee ef ek =
     sf ∙ ap (λ (n : ℕ). over (bytesOf 1 n ++ nodes ++ q ++ key ++ padding) d) ex
     ∙ ap (λ (n : ℕ). over (bytesOf 1 (packedOn 0 pkrFirst (v .nb-dp ∷ v .mid ∷ [])) ++ nodes ++ bytesOf 1 n ++ key ++ padding) d) ey
 
-module _ (memory : List ℕ) (id : ℕ) (v : PkrNumbers) (nodes key padding : List ℕ) {q : ℕ} (e : q ≡ refusal (pkrChecks memory id (pkrOf v) nodes key padding)) (z : q ≡ 0) where
+module _ (memory : List ℕ) (id : ℕ) (v : PkrNumbers) (nodes key padding : List ℕ) {q : ℕ} (e : q ≡ refusal (pkrChecks memory id (pkrOf v) nodes key padding))
+    (z : q ≡ 0) where
   pkr-checked : Passed (pkrChecks memory id (pkrOf v) nodes key padding)
   pkr-checked = none-fails (pkrChecks memory id (pkrOf v) nodes key padding) tt (sym e ∙ z)
 
@@ -235,4 +238,5 @@ pub pkr-written : (memory : List ℕ) (id : ℕ) (v : PkrValues) (nodes key padd
     → _≡_ {A = Written} (record { memory = after; answer = gives (id ∷ 1 ∷ n ∷ []) }) (writePkr memory id v nodes key padding)
 unfolding writePkr
 pkr-written memory id v nodes key padding e z a h l n =
-    write-done _ memory (pkrMessage v nodes key padding) id 1 e z a (ap (λ (b : Bool). cond b 0 1) (le-ltb id 12 h)) (n ∙ sym (length-pkr v nodes key padding l))
+    write-done _ memory (pkrMessage v nodes key padding) id 1 e z a (ap (λ (b : Bool). cond b 0 1) (le-ltb id 12 h))
+    (n ∙ sym (length-pkr v nodes key padding l))

@@ -26,7 +26,8 @@ module _ (m : List ℕ) (v : KrootValues) (key signature padding : List ℕ) (f 
   kroot-by-code : KrootReadByCode m v key signature padding
   kroot-by-code =
       let reads : KrootReads m (krootOf v) key signature padding = kroot-reads m (krootOf v) key signature padding f in
-      let row : (i : ℕ) → getD (map (λ (f : Field). read f m) krootLayout) i nothing ≡ getD (map (λ (n : ℕ). gives (n ∷ [])) (krootNumbers (krootOf v))) i nothing =
+      let row : (i : ℕ) → getD (map (λ (f : Field). read f m) krootLayout) i nothing ≡ getD
+      (map (λ (n : ℕ). gives (n ∷ [])) (krootNumbers (krootOf v))) i nothing =
       λ i. ap (λ (l : List Answer). getD l i nothing) (reads .rows) in
       let says : (i : ℕ) → getD (krootNumbers (krootOf v)) i 0 ≡ getD (map (λ (f : Field). value f m) krootLayout) i 0 =
       λ i. sym (ap (λ (l : List ℕ). getD l i 0) (f .values)) in

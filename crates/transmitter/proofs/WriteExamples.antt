@@ -5,15 +5,14 @@ use Rattle.layouts.specs.Answer.{refusal, answered}
 use Rattle.layouts.specs.Bits.{field, bit}
 use Rattle.layouts.specs.Lists.{all}
 use Rattle.layouts.specs.Packed.{packedOn, bytesOf, tooWide}
-use Rattle.layouts.specs.Sizes.{krootBlocks, pkrBlocks, keySizes, tagSizes, keyTypes, hashFunctions, macFunctions, ecdsaFunctions}
-use Rattle.layouts.specs.DsmKroot as kroot
-use Rattle.layouts.specs.DsmKroot.{krootPart, padding-to-block, signature-length, signaturePart, ecdsaFunction}
+use Rattle.layouts.specs.Sizes.{krootBlocks, pkrBlocks, keySizes, tagSizes, keyTypes}
+use Rattle.layouts.specs.DsmKroot.{krootPart, padding-to-block, signature-length, signaturePart, ecdsaFunction, paddingPart}
 use Rattle.layouts.specs.DsmPkr as pkr
 use Rattle.layouts.specs.DsmPkr.{nodePart, newKeyPart, leafPart}
 use Rattle.dsms.specs.Dsm.{begun, stored, counted, finished, taken, feed}
 use Rattle.transmitter.specs.Write.{written, krootMessage, writeKroot, pkrMessage, writePkr, cut}
 use Rattle.transmitter.specs.WriteBack.{allGiven, isGoodKroot, isGoodPkr}
-use Rattle.transmitter.specs.WriteExamples.{WrittenExamples, GoodExamples, FedExamples}
+use Rattle.transmitter.specs.WriteExamples.{WrittenExamples, KrootExamples, PkrExamples, FedExamples}
 
 pub written-examples : WrittenExamples
 unfolding writeKroot writePkr written refusal krootBlocks pkrBlocks keySizes tagSizes keyTypes tooWide krootMessage pkrMessage bytesOf packedOn
@@ -29,19 +28,23 @@ written-examples =
       alert-33 = refl;
     }
 
-pub good-examples : GoodExamples
-unfolding isGoodKroot isGoodPkr allGiven refusal answered field bit krootBlocks pkrBlocks keySizes tagSizes keyTypes hashFunctions macFunctions ecdsaFunctions krootPart padding-to-block signature-length signaturePart ecdsaFunction kroot.paddingPart pkr.paddingPart nodePart newKeyPart leafPart
-good-examples =
+pub kroot-examples : KrootExamples
+unfolding isGoodKroot allGiven refusal answered field bit krootBlocks keySizes tagSizes krootPart padding-to-block signature-length
+    signaturePart paddingPart ecdsaFunction
+kroot-examples =
     record {
       good = refl;
       reserved-hash = refl;
       other-length = (refl, refl);
       reserved-bit = (refl, refl);
       reserved-tag = refl;
-      good-pkr = refl;
-      longer-pkr = (refl, refl);
     }
 
+pub pkr-examples : PkrExamples
+unfolding isGoodPkr allGiven refusal answered field bit pkrBlocks keyTypes nodePart newKeyPart leafPart pkr.paddingPart
+pkr-examples = record { good = refl; longer = (refl, refl) }
+
 pub fed-examples : FedExamples
-unfolding writeKroot writePkr written refusal krootBlocks pkrBlocks keySizes tagSizes keyTypes tooWide krootMessage pkrMessage bytesOf packedOn cut answered counted field bit begun stored finished taken feed all
+unfolding writeKroot written refusal krootBlocks keySizes tagSizes tooWide krootMessage bytesOf packedOn cut
+    answered counted field bit begun stored finished taken feed all
 fed-examples = record { any-order = refl; within-a-run = refl; mixed = refl }

@@ -94,7 +94,8 @@ cut-agrees memory id n r s p q =
     let b : r .bytes ≡ s .bytes = ap (λ (c : Copied). c .bytes) e in
     ap (λ (h : BlockHeader). beside h (r .bytes)) a ∙ ap (beside (s .answer)) b
 
-written-agrees : {r s : WriteAnswer} {x y : List ℕ} → _≡_ {A = Written} (record { memory = x; answer = meaning-written r }) (record { memory = y; answer = meaning-written s })
+written-agrees : {r s : WriteAnswer} {x y : List ℕ} → _≡_ {A = Written} (record { memory = x; answer = meaning-written r })
+    (record { memory = y; answer = meaning-written s })
     → (r ≡ s) × (x ≡ y)
 written-agrees {r} {s} e = (same-written r s (ap (λ (w : Written). w .answer) e), ap (λ (w : Written). w .memory) e)
 

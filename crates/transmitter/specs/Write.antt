@@ -146,7 +146,10 @@ cutChecks memory id n =
     7 when not (ltb n (blocks memory id)) ∷
     []
 
+-- "with headers": the two halves of a header byte
+abbrev pub header : ℕ → ℕ → ℕ
+header id n = packedOn 0 dsmHeader (id ∷ n ∷ [])
+
 -- block n: its header byte and its 13 bytes; zeros where refused
 unfoldable pub cut : List ℕ → ℕ → ℕ → Copied
-cut memory id n =
-    answeredWith (cutChecks memory id n) (gives (packedOn 0 dsmHeader (id ∷ n ∷ []) ∷ [])) (take 13 (drop (13 * n) memory)) (replicate 13 0)
+cut memory id n = answeredWith (cutChecks memory id n) (gives (header id n ∷ [])) (take 13 (drop (13 * n) memory)) (replicate 13 0)

@@ -46,7 +46,7 @@ abbrev pub pkrMessage : ℕ → List ℕ
 pkrMessage more = 112 ∷ replicate 128 0 ++ (16 ∷ replicate more 0)
 
 -- "exactly if": what is good, and what each condition is for.
-pub record GoodExamples : Type 0 where
+pub record KrootExamples : Type 0 where
   pub good : isGoodKroot (message 16 0 5) ≡ true
   -- a hash function that reads as Reserved
   pub reserved-hash : isGoodKroot (message 16 4 5) ≡ true
@@ -56,9 +56,11 @@ pub record GoodExamples : Type 0 where
   pub reserved-bit : (allGiven (krootAnswers (message 16 16 5)) ≡ true) × (isGoodKroot (message 16 16 5) ≡ false)
   -- a reserved tag size
   pub reserved-tag : allGiven (krootAnswers (message 16 0 0)) ≡ false
-  pub good-pkr : isGoodPkr (pkrMessage 39) ≡ true
+
+pub record PkrExamples : Type 0 where
+  pub good : isGoodPkr (pkrMessage 39) ≡ true
   -- one byte more: no reader refuses
-  pub longer-pkr : (allGiven (pkrAnswers (pkrMessage 40)) ≡ true) × (isGoodPkr (pkrMessage 40) ≡ false)
+  pub longer : (allGiven (pkrAnswers (pkrMessage 40)) ≡ true) × (isGoodPkr (pkrMessage 40) ≡ false)
 
 -- Blocks of what was written, cut and fed one by one: the answers, and the state at the end.
 abbrev pub fedBlock : List ℕ → ℕ → State → ℕ → Fed

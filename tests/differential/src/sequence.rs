@@ -1,5 +1,6 @@
 //! Sequences of calls on two sides that must agree after each, and the smallest one that still shows a difference.
 use std::fmt::Display;
+use std::panic::{AssertUnwindSafe, catch_unwind};
 
 /// What a call came to, for the count.
 #[derive(Clone, Copy, PartialEq, Eq, Debug)]
@@ -80,4 +81,18 @@ pub fn report<P: Pair>(start: u64, calls: &[P::Call]) -> String {
 
 fn lent(start: u64) -> String {
     if start == 0 { "zeros".to_string() } else { format!("random from {start}") }
+}
+
+/// The number of the first that holds; 0 for none.
+pub fn refusal<const N: usize>(checks: [(u64, bool); N]) -> u64 {
+    checks.into_iter().find(|check| check.1).map_or(0, |check| check.0)
+}
+
+/// What the Rust gives; a panic, where document 01 refuses nothing, is a difference.
+pub fn caught<T>(call: impl FnOnce() -> T) -> Result<T, String> {
+    catch_unwind(AssertUnwindSafe(call)).map_err(|_| "the Rust panics".to_string())
+}
+
+pub fn hex(bytes: &[u8]) -> String {
+    bytes.iter().map(|byte| format!("{byte:02x}")).collect()
 }

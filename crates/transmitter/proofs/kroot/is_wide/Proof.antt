@@ -18,6 +18,10 @@ use Rattle.transmitter.proofs.kroot.is_wide.Tie as tie
 abbrev Fit : KrootValues → ℕ → Type 0
 Fit v i = (r : Bool) → r ≡ tooWide (drop i krootLayout) (drop i (krootNumbers (krootOf v))) → r ≡ tooWide krootLayout (krootNumbers (krootOf v))
 
+-- the values, from half way on
+abbrev values : tie.Else5 → KrootValues
+values c = c .before .before .before .before .before .before .before .before .before .before .args .v
+
 fit-1 : (c : tie.Else1) → Fit (c .before .before .args .v) 1
 fit-1 c r h = wide-on _ _ _ _ (c .before .is-wide .ensures) (c .if1 .left) h
 
@@ -33,22 +37,19 @@ fit-4 c r h = fit-3 (c .before .before) _ (wide-on _ _ _ _ (c .before .is-wide4 
 fit-5 : (c : tie.Else5) → Fit (c .before .before .before .before .before .before .before .before .before .before .args .v) 6
 fit-5 c r h = fit-4 (c .before .before) _ (wide-on _ _ _ _ (c .before .is-wide5 .ensures) (c .if5 .left) h)
 
-fit-6 : (c : tie.Else6) → Fit (c .before .before .before .before .before .before .before .before .before .before .before .before .args .v) 7
+fit-6 : (c : tie.Else6) → Fit (values (c .before .before)) 7
 fit-6 c r h = fit-5 (c .before .before) _ (wide-on _ _ _ _ (c .before .is-wide6 .ensures) (c .if6 .left) h)
 
-fit-7 : (c : tie.Else7) → Fit (c .before .before .before .before .before .before .before .before .before .before .before .before .before .before .args .v) 8
+fit-7 : (c : tie.Else7) → Fit (values (c .before .before .before .before)) 8
 fit-7 c r h = fit-6 (c .before .before) _ (wide-on _ _ _ _ (c .before .is-wide7 .ensures) (c .if7 .left) h)
 
-fit-8 : (c : tie.Else8)
-    → Fit (c .before .before .before .before .before .before .before .before .before .before .before .before .before .before .before .before .args .v) 10
+fit-8 : (c : tie.Else8) → Fit (values (c .before .before .before .before .before .before)) 10
 fit-8 c r h = fit-7 (c .before .before) _ (wide-on _ _ _ _ (c .before .is-wide8 .ensures) (c .if8 .left) (wide-zero _ _ _ h))
 
-fit-9 : (c : tie.Else9)
-    → Fit (c .before .before .before .before .before .before .before .before .before .before .before .before .before .before .before .before .before .before .args .v) 11
+fit-9 : (c : tie.Else9) → Fit (values (c .before .before .before .before .before .before .before .before)) 11
 fit-9 c r h = fit-8 (c .before .before) _ (wide-on _ _ _ _ (c .before .is-wide9 .ensures) (c .if9 .left) h)
 
-fit-10 : (c : tie.Else10)
-    → Fit (c .before .before .before .before .before .before .before .before .before .before .before .before .before .before .before .before .before .before .before .before .args .v) 12
+fit-10 : (c : tie.Else10) → Fit (values (c .before .before .before .before .before .before .before .before .before .before)) 12
 fit-10 c r h = fit-9 (c .before .before) _ (wide-on _ _ _ _ (c .before .is-wide10 .ensures) (c .if10 .left) h)
 
 is-wide-requires : tie.Need-is-wide-requires

@@ -2,9 +2,8 @@
 //! published Rust, compared after every call. Ends with status 1 at the first difference, with the smallest sequence.
 use differential::inputs::Random;
 use differential::published::silence_panics;
-use differential::sequence::{Came, Pair, report};
+use differential::sequence::{Came, Pair, caught, hex, refusal, report};
 use probe::Told;
-use std::panic::{AssertUnwindSafe, catch_unwind};
 use std::process::exit;
 
 mod dsm;
@@ -95,20 +94,6 @@ fn words() {
             }
         }
     }
-}
-
-/// The number of the first that holds; 0 for none.
-fn refusal<const N: usize>(checks: [(u64, bool); N]) -> u64 {
-    checks.into_iter().find(|check| check.1).map_or(0, |check| check.0)
-}
-
-/// What the Rust gives; a panic, where document 01 refuses nothing, is a difference.
-fn caught<T>(call: impl FnOnce() -> T) -> Result<T, String> {
-    catch_unwind(AssertUnwindSafe(call)).map_err(|_| "the Rust panics".to_string())
-}
-
-fn hex(bytes: &[u8]) -> String {
-    bytes.iter().map(|byte| format!("{byte:02x}")).collect()
 }
 
 fn main() {
