@@ -39,14 +39,14 @@ put-on d p s {now} at a e l =
     a ∙ ap (λ (x : List ℕ). x ++ s ++ drop (at + length s) now) front ∙ ap (λ (x : List ℕ). p ++ s ++ x) back
 
 -- 7 bytes of a head, then 6 of alpha
-pub head-apart : (n h l : ℕ) → n ≡ h * 281474976710656 + l → l < 281474976710656 → bytesOf 13 n ≡ bytesOf 7 h ++ bytesOf 6 l
+pub head-apart : (n h l : ℕ) → n ≡ h * 2 ^ 48 + l → l < 2 ^ 48 → bytesOf 13 n ≡ bytesOf 7 h ++ bytesOf 6 l
 unfolding bytesOf
 head-apart n h l e b =
     more (omega arith) (more (omega arith) (more (omega arith) (more (omega arith) (more (omega arith) (more (omega arith) (more (omega arith)
     (more (omega arith) (more (omega arith) (more (omega arith) (more (omega arith) (more (omega arith) (more (omega arith) refl))))))))))))
 
 pub kroot-put : (v : KrootValues) (key signature padding d : List ℕ) (h : ℕ) {a b c e f : List ℕ} {k s : ℕ}
-    → packedOn 0 krootLayout (krootNumbers v) ≡ h * 281474976710656 + v .alpha → v .alpha < 281474976710656
+    → packedOn 0 krootLayout (krootNumbers v) ≡ h * 2 ^ 48 + v .alpha → v .alpha < 2 ^ 48
     → a ≡ putAt d 0 (bytesOf 7 h) → b ≡ putAt a 7 (bytesOf 6 (v .alpha)) → c ≡ putAt b 13 key → e ≡ putAt c k signature → k ≡ 13 + length key
     → f ≡ putAt e s padding → s ≡ k + length signature
     → f ≡ over (krootMessage v key signature padding) d

@@ -17,7 +17,7 @@ use layouts::dsm_kroot::TS;
 use layouts::dsm_kroot::WN_K;
 ghost use mathlib.Core.Path.{_≡_};
 ghost use mathlib.Core.Bool.{_||_};
-ghost use Prim.Native.Nat.{_+_, _*_, _≤_};
+ghost use Prim.Native.Nat.{_+_, _*_, _^_, _≤_};
 ghost use lib.ListN.{length};
 ghost use lib.Dec.{eqb};
 ghost use Rattle.layouts.specs.Answer.{refusal as refusalOf};
@@ -161,7 +161,7 @@ fn refuses(dsm: &[u8], id: u64, v: KrootValues, key: &[u8], signature: &[u8], pa
 // The bits before alpha as one number.
 fn head(v: KrootValues) -> u64
     requires { ⌜ Narrow v ⌝ }
-    ensures { λ r. ⌜ packedOn 0 krootLayout (krootNumbers (krootOf v)) ≡ r * 281474976710656 + v .alpha ⌝ }
+    ensures { λ r. ⌜ packedOn 0 krootLayout (krootNumbers (krootOf v)) ≡ r * 2 ^ 48 + v .alpha ⌝ }
 {
     let end = ALPHA.first;
     let counts = fields::placed(v.nb_dk, NB_DK, end) + fields::placed(v.pkid, PKID, end);

@@ -1,6 +1,6 @@
 -- What the private functions of the writers do.
 -- Assumes nothing.
-use Prim.Native.Nat.{ℕ, _+_, _<_}
+use Prim.Native.Nat.{ℕ, _+_, _^_, _<_}
 use mathlib.Core.List.{List, _++_}
 use lib.ListN.{length, take, drop}
 use Rattle.transmitter.specs.declared.kroot.KrootValues.{KrootValues}
@@ -26,7 +26,7 @@ pub record Narrow (v : KrootValues) : Type 0 where
   pub maclt : v .maclt < 256
   pub wn-k : v .«wn_k» < 4096
   pub towh-k : v .«towh_k» < 256
-  pub alpha : v .alpha < 281474976710656
+  pub alpha : v .alpha < 2 ^ 48
 
 -- those of a PKR message
 pub record Halves (v : PkrValues) : Type 0 where
