@@ -44,7 +44,7 @@ use Rattle.transmitter.proofs.KrootBack.{KrootFacts, kroot-facts}
 use Rattle.transmitter.proofs.PkrBack.{PkrFacts, pkr-facts}
 use Rattle.transmitter.proofs.WriteUnique.{same-header}
 use Rattle.transmitter.proofs.SentCalls as sent-calls
-use Rattle.transmitter.proofs.SentCalls.{Below, below-more}
+use Rattle.transmitter.proofs.SentCalls.{counted-more}
 
 -- From any record in which no run of this ID goes on, a block of this ID does what it does from a new one.
 anew : (s : State) (i : ℕ) → (s .came && eqb (s .id) i) ≡ false → begun s i ≡ begun (new (s .memory)) i
@@ -128,7 +128,7 @@ module _ (sent : List ℕ) (id : ℕ) (long : length sent ≡ 208) (few : id ≤
   -- Any history: as if a new collector had been fed the blocks, once one was.
   record Held (s : State) (ns : List ℕ) : Type 0 where
     sound : Sound s
-    below : Below c# ns
+    below : Counted c# ns
     base : List ℕ
     base-long : length base ≡ 208
     next : (k : ℕ) → k < c# → fedTo s (call k) ≡ fedTo (after (new base) (calls ns)) (call k)
@@ -142,7 +142,7 @@ module _ (sent : List ℕ) (id : ℕ) (long : length sent ≡ 208) (few : id ≤
       ∙ sym (after-more (new (h .base)) (calls ns) (call k)) ∙ ap (after (new (h .base))) (sym (map-append call ns (k ∷ []))) in
       record {
         sound = sound-fed s (d .header) (d .block) (h .sound);
-        below = below-more c# ns k (h .below) low;
+        below = counted-more c# ns k (h .below) low;
         base = h .base;
         base-long = h .base-long;
         next = λ j g. ap (λ (t : State). fedTo t (call j)) st;
@@ -198,8 +198,8 @@ module _ (sent : List ℕ) (id : ℕ) (long : length sent ≡ 208) (few : id ≤
           (sent-calls.whole-is sent id long few some ns (h .below))
           ∙ go (allOf sent id (ns ++ (k ∷ []))) refl
         where
-          more : Below c# (ns ++ (k ∷ []))
-          more = below-more c# ns k (h .below) low
+          more : Counted c# (ns ++ (k ∷ []))
+          more = counted-more c# ns k (h .below) low
 
           go : (x : Bool) → allOf sent id (ns ++ (k ∷ [])) ≡ x
               → cond (x && not (allOf sent id ns)) (gives (id ∷ dsmType id ∷ 13 * counts id (calls (ns ++ (k ∷ []))) ∷ [])) nothing
@@ -217,7 +217,7 @@ module _ (sent : List ℕ) (id : ℕ) (long : length sent ≡ 208) (few : id ≤
         let z : _≡_ {A = ℕ} 0 1 = cc in absurd (omega arith)
     some-fed (k ∷ ns) e = omega arith
 
-    run-id : (ns : List ℕ) → 0 < length ns → Below c# ns → runId (calls ns) ≡ id
+    run-id : (ns : List ℕ) → 0 < length ns → Counted c# ns → runId (calls ns) ≡ id
     run-id [] h b = absurd (omega arith)
     run-id (k ∷ ns) h b = sent-calls.run-id sent id long few k ns b
 

@@ -21,16 +21,12 @@ use Rattle.dsms.specs.DsmRecovery.{Call, sameId, isAdmitted, before, grown, run
 use Rattle.dsms.proofs.Blocks.{counted-few}
 use Rattle.dsms.proofs.DsmRun.{copy-none, counted-byte, counted-none, same-bool}
 use Rattle.transmitter.specs.Write.{blocks}
-use Rattle.transmitter.specs.Sending.{among, allOf}
+use Rattle.transmitter.specs.Sending.{among, allOf, Counted}
 
--- each number is below a bound
-abbrev pub Below : ℕ → List ℕ → Type 0
-Below c [] = Unit {0}
-Below c (n ∷ ns) = (n < c) × Below c ns
-
-pub below-more : (c : ℕ) (ns : List ℕ) (n : ℕ) → Below c ns → n < c → Below c (ns ++ (n ∷ []))
-below-more c [] n b h = (h, tt)
-below-more c (k ∷ ns) n b h = (b .0, below-more c ns n (b .1) h)
+-- one counted block more
+pub counted-more : (c : ℕ) (ns : List ℕ) (n : ℕ) → Counted c ns → n < c → Counted c (ns ++ (n ∷ []))
+counted-more c [] n b h = (h, tt)
+counted-more c (k ∷ ns) n b h = (b .0, counted-more c ns n (b .1) h)
 
 eqb-turn : (a b : ℕ) → eqb a b ≡ eqb b a
 eqb-turn a b = go (eqb b a) refl
@@ -82,36 +78,36 @@ module _ (sent : List ℕ) (id : ℕ) (long : length sent ≡ 208) (few : id ≤
     is-admitted = eq-eqb (length (call n .block)) 13 block-long
 
   -- the run of such calls is all of them
-  goes : (k : ℕ) (ns : List ℕ) (n : ℕ) → Below c# (k ∷ ns) → n < c# → goesOn isAdmitted sameId (calls (k ∷ ns)) (call n) ≡ true
+  goes : (k : ℕ) (ns : List ℕ) (n : ℕ) → Counted c# (k ∷ ns) → n < c# → goesOn isAdmitted sameId (calls (k ∷ ns)) (call n) ≡ true
   goes k [] n b h = eq-eqb _ _ (id-of k (b .0) ∙ sym (id-of n h))
   goes k (j ∷ ns) n b h = goes j ns n (b .1) h
 
-  pub before-calls : (ns : List ℕ) (n : ℕ) → Below c# ns → n < c# → before (calls ns) (call n) ≡ calls ns
+  pub before-calls : (ns : List ℕ) (n : ℕ) → Counted c# ns → n < c# → before (calls ns) (call n) ≡ calls ns
   before-calls [] n b h = refl
   before-calls (k ∷ ns) n b h = ap (λ (x : Bool). cond x (calls (k ∷ ns)) []) (goes k ns n b h)
 
-  pub grown-calls : (ns : List ℕ) (n : ℕ) → Below c# ns → n < c# → grown (calls ns) (call n) ≡ calls (ns ++ (n ∷ []))
+  pub grown-calls : (ns : List ℕ) (n : ℕ) → Counted c# ns → n < c# → grown (calls ns) (call n) ≡ calls (ns ++ (n ∷ []))
   grown-calls ns n b h =
       ap (λ (x : Bool). cond x (before (calls ns) (call n) ++ (call n ∷ [])) (calls ns)) (is-admitted n h)
       ∙ ap (λ (r : List Call). r ++ (call n ∷ [])) (before-calls ns n b h)
       ∙ sym (map-append call ns (n ∷ []))
 
-  run-on : (rs ns : List ℕ) → Below c# rs → Below c# ns → runFrom isAdmitted sameId (calls rs) (calls ns) ≡ calls (rs ++ ns)
+  run-on : (rs ns : List ℕ) → Counted c# rs → Counted c# ns → runFrom isAdmitted sameId (calls rs) (calls ns) ≡ calls (rs ++ ns)
   run-on rs [] a b = ap calls (sym (append-nil rs))
   run-on rs (n ∷ ns) a b =
       ap (λ (r : List Call). runFrom isAdmitted sameId r (calls ns)) (grown-calls rs n a (b .0))
-      ∙ run-on (rs ++ (n ∷ [])) ns (below-more c# rs n a (b .0)) (b .1)
+      ∙ run-on (rs ++ (n ∷ [])) ns (counted-more c# rs n a (b .0)) (b .1)
       ∙ ap calls (append-assoc rs (n ∷ []) ns)
 
-  pub run-calls : (ns : List ℕ) → Below c# ns → run (calls ns) ≡ calls ns
+  pub run-calls : (ns : List ℕ) → Counted c# ns → run (calls ns) ≡ calls ns
   run-calls ns b = run-on [] ns tt b
 
-  pub run-id : (n : ℕ) (ns : List ℕ) → Below c# (n ∷ ns) → runId (calls (n ∷ ns)) ≡ id
+  pub run-id : (n : ℕ) (ns : List ℕ) → Counted c# (n ∷ ns) → runId (calls (n ∷ ns)) ≡ id
   run-id n [] b = id-of n (b .0)
   run-id n (k ∷ ns) b = run-id k ns (b .1)
 
   -- what was fed, and its first copies
-  fed-among : (ns : List ℕ) (k : ℕ) → Below c# ns → fed k (calls ns) ≡ among k ns
+  fed-among : (ns : List ℕ) (k : ℕ) → Counted c# ns → fed k (calls ns) ≡ among k ns
   unfolding fed among
   fed-among [] k b = refl
   fed-among (n ∷ ns) k b =
@@ -124,7 +120,7 @@ module _ (sent : List ℕ) (id : ℕ) (long : length sent ≡ 208) (few : id ≤
       turn true y = refl
       turn false y = refl
 
-  copy-among : (ns : List ℕ) (k : ℕ) → Below c# ns → among k ns ≡ true → firstCopy k (calls ns) ≡ take 13 (drop (13 * k) sent)
+  copy-among : (ns : List ℕ) (k : ℕ) → Counted c# ns → among k ns ≡ true → firstCopy k (calls ns) ≡ take 13 (drop (13 * k) sent)
   unfolding firstCopy among
   copy-among [] k b e = let z : _≡_ {A = ℕ} 0 1 = cc in absurd (omega arith)
   copy-among (n ∷ ns) k b e =
@@ -136,17 +132,17 @@ module _ (sent : List ℕ) (id : ℕ) (long : length sent ≡ 208) (few : id ≤
       go true q ih f = ap (λ (i : ℕ). take 13 (drop (13 * i) sent)) (eqb-true n k q)
       go false q ih f = ih f
 
-  counts-all : (ns : List ℕ) → Below c# ns → among 0 ns ≡ true → counts id (calls ns) ≡ c#
+  counts-all : (ns : List ℕ) → Counted c# ns → among 0 ns ≡ true → counts id (calls ns) ≡ c#
   counts-all ns b e =
       ap (counted (dsmType id)) (copy-among ns 0 b e)
       ∙ counted-byte (dsmType id) (take 13 sent) sent (getD-take 13 sent 0 0 (omega arith))
 
-  counts-none : (ns : List ℕ) → Below c# ns → among 0 ns ≡ false → counts id (calls ns) ≡ 0
+  counts-none : (ns : List ℕ) → Counted c# ns → among 0 ns ≡ false → counts id (calls ns) ≡ 0
   counts-none ns b e = ap (counted (dsmType id)) (copy-none 0 (calls ns) (fed-among ns 0 b ∙ e)) ∙ counted-none (dsmType id)
 
   -- the run is whole exactly where all counted blocks are among the numbers
   module _ (some : 0 < c#) where
-    pub whole-is : (ns : List ℕ) → Below c# ns → isWhole id (calls ns) ≡ allOf sent id ns
+    pub whole-is : (ns : List ℕ) → Counted c# ns → isWhole id (calls ns) ≡ allOf sent id ns
     whole-is ns b = go (among 0 ns) refl
       where
         go : (x : Bool) → among 0 ns ≡ x → isWhole id (calls ns) ≡ allOf sent id ns
@@ -159,10 +155,10 @@ module _ (sent : List ℕ) (id : ℕ) (long : length sent ≡ 208) (few : id ≤
             ∙ same-bool false (allOf sent id ns) (λ z. let y : _≡_ {A = ℕ} 0 1 = cc in absurd (omega arith))
             (λ e. sym q ∙ all-at (λ k. among k ns) c# e 0 some)
 
-    pub counts-whole : (ns : List ℕ) → Below c# ns → allOf sent id ns ≡ true → counts id (calls ns) ≡ c#
+    pub counts-whole : (ns : List ℕ) → Counted c# ns → allOf sent id ns ≡ true → counts id (calls ns) ≡ c#
     counts-whole ns b e = counts-all ns b (all-at (λ k. among k ns) c# e 0 some)
 
-  copies : (ns : List ℕ) (n : ℕ) → Below c# ns → ((k : ℕ) → k < n → among k ns ≡ true) → firstCopies n (calls ns) ≡ take (13 * n) sent
+  copies : (ns : List ℕ) (n : ℕ) → Counted c# ns → ((k : ℕ) → k < n → among k ns ≡ true) → firstCopies n (calls ns) ≡ take (13 * n) sent
   unfolding firstCopies
   copies ns zero b h = refl
   copies ns (suc n) b h =
@@ -171,5 +167,5 @@ module _ (sent : List ℕ) (id : ℕ) (long : length sent ≡ 208) (few : id ≤
       ∙ ap (λ (l : List ℕ). take (13 * n) sent ++ l) (copy-among ns n b (h n (omega arith)))
       ∙ sym (take-add (13 * n) 13 sent) ∙ ap (λ (x : ℕ). take x sent) (sym e)
 
-  pub copies-are : (ns : List ℕ) → Below c# ns → allOf sent id ns ≡ true → firstCopies c# (calls ns) ≡ take (13 * c#) sent
+  pub copies-are : (ns : List ℕ) → Counted c# ns → allOf sent id ns ≡ true → firstCopies c# (calls ns) ≡ take (13 * c#) sent
   copies-are ns b e = copies ns c# b (all-at (λ k. among k ns) c# e)
