@@ -1,6 +1,7 @@
 //! bench PAGES: times of the port and of the published Rust for the same work, as a table. Compiled for another machine than
 //! x86-64 it has the readers alone: the archive `probe` hands records over by value, as x86-64 does it.
-//! bench PAGES list: a line for each side of each work: its numbers, its units, its names.
+//! bench PAGES list: a line for each side of each work: its numbers, its units, its names. As the table, it ends where the sums
+//! of a work's sides differ.
 //! bench PAGES only WORK SIDE TIMES: does that side of that work so often, for a counter of instructions: what two numbers
 //! of times differ by is the work's own.
 use std::hint::black_box;
@@ -67,8 +68,12 @@ impl Work<'_> {
                 least[place] = least[place].min((clock() - begin) as f64 / self.units as f64);
             }
         }
-        assert!(sums.iter().all(|sum| *sum == sums[0]), "{}: the sides answer differently: {sums:?}", self.name);
+        self.agree(&sums);
         least
+    }
+
+    fn agree(&self, sums: &[u64]) {
+        assert!(sums.iter().all(|sum| *sum == sums[0]), "{}: the sides answer differently: {sums:?}", self.name);
     }
 
     /// Where no table is asked for, what is.
@@ -76,6 +81,8 @@ impl Work<'_> {
         let number = WORKS.fetch_add(1, Ordering::Relaxed);
         match MODE.get() {
             Some(Mode::List) => {
+                let sums: Vec<u64> = self.sides.iter_mut().map(|side| side.1()).collect();
+                self.agree(&sums);
                 for (place, (side, _)) in self.sides.iter().enumerate() {
                     println!("{number} {place} {} {}, {side}", self.units, self.name);
                 }

@@ -1,4 +1,4 @@
-//! Pages of 36 satellites in turn, all in order, so that each subframe completes for all.
+//! Pages of 36 satellites in turn, all in order, so that each subframe completes for all, or is silent for all.
 use crate::probe::{self, Buffers, When};
 use crate::{Random, Work};
 use oracle::subframe::CollectSubframe;
@@ -6,8 +6,8 @@ use oracle::{Gst, Svn};
 
 const ENTRY: usize = 12;
 
-/// A trace of that many pages: satellite, week, time, page, high byte first.
-fn trace(pages: usize) -> Vec<u8> {
+/// A trace of that many pages: satellite, week, time, page, high byte first; a page is random, or zeros.
+fn trace(pages: usize, silent: bool) -> Vec<u8> {
     let mut random = Random::new(1);
     let mut trace = vec![0; ENTRY * pages];
     for (k, entry) in trace.chunks_mut(ENTRY).enumerate() {
@@ -15,7 +15,9 @@ fn trace(pages: usize) -> Vec<u8> {
         entry[0] = (k % 36) as u8 + 1;
         entry[1..3].copy_from_slice(&(1200 + (seconds / 604_800) as u16).to_be_bytes());
         entry[3..7].copy_from_slice(&(seconds % 604_800).to_be_bytes());
-        random.fill(&mut entry[7..]);
+        if !silent {
+            random.fill(&mut entry[7..]);
+        }
     }
     trace
 }
@@ -27,7 +29,12 @@ fn when(entry: &[u8]) -> When {
 }
 
 pub fn run(many: usize) {
-    let trace = &trace(many)[..];
+    work(many, "pages", false);
+    work(many, "pages, all silent", true);
+}
+
+fn work(many: usize, name: &'static str, silent: bool) {
+    let trace = &trace(many, silent)[..];
     let pages: Vec<([u8; 5], When)> =
         trace.chunks(ENTRY).map(|entry| (entry[7..].try_into().unwrap(), when(entry))).collect();
     let rust_pages: Vec<([u8; 5], Svn, Gst)> = pages
@@ -35,12 +42,13 @@ pub fn run(many: usize) {
         .map(|(bytes, when)| (*bytes, Svn::try_from(when.satellite).unwrap(), Gst::new(when.week, when.time)))
         .collect();
     let (pages, rust_pages) = (&pages[..], &rust_pages[..]);
+    let silent = u64::from(silent);
     Work {
-        name: "pages",
+        name,
         units: many,
         sides: vec![
-            ("Rust, `CollectSubframe::feed`", Box::new(move || rust(rust_pages))),
-            ("Rust, from the bytes of the trace", Box::new(move || rust_trace(trace))),
+            ("Rust, `CollectSubframe::feed`", Box::new(move || rust(rust_pages, silent))),
+            ("Rust, from the bytes of the trace", Box::new(move || rust_trace(trace, silent))),
             ("`feed`, a call across C for each page", Box::new(move || feed(pages))),
             ("`feed_all`", Box::new(move || feed_all(trace))),
         ],
@@ -48,20 +56,20 @@ pub fn run(many: usize) {
     .print();
 }
 
-// Each side adds the time of week and the first HKROOT byte of what completes.
+// Each side adds the time of week and the first HKROOT byte of each pair, and 1 where it is silent, which the Rust is told.
 
-fn rust(pages: &[([u8; 5], Svn, Gst)]) -> u64 {
+fn rust(pages: &[([u8; 5], Svn, Gst)], silent: u64) -> u64 {
     let mut collector = CollectSubframe::new();
     let mut sum = 0;
     for (bytes, svn, gst) in pages {
         if let Some((hkroot, _, gst)) = collector.feed(bytes, *svn, *gst) {
-            sum += u64::from(gst.tow()) + u64::from(hkroot[0]);
+            sum += u64::from(gst.tow()) + u64::from(hkroot[0]) + silent;
         }
     }
     sum
 }
 
-fn rust_trace(trace: &[u8]) -> u64 {
+fn rust_trace(trace: &[u8], silent: u64) -> u64 {
     let mut collector = CollectSubframe::new();
     let mut sum = 0;
     for entry in trace.chunks_exact(ENTRY) {
@@ -69,7 +77,7 @@ fn rust_trace(trace: &[u8]) -> u64 {
         let bytes = entry[7..].try_into().unwrap();
         let (svn, gst) = (Svn::try_from(satellite).unwrap(), Gst::new(week, time));
         if let Some((hkroot, _, gst)) = collector.feed(bytes, svn, gst) {
-            sum += u64::from(gst.tow()) + u64::from(hkroot[0]);
+            sum += u64::from(gst.tow()) + u64::from(hkroot[0]) + silent;
         }
     }
     sum
@@ -84,7 +92,8 @@ fn feed(pages: &[([u8; 5], When)]) -> u64 {
         let called = probe::subframe_feed(collector, lent, bytes, *when);
         collector = called.collector;
         if called.answer.kind == 1 {
-            sum += called.answer.second + u64::from(hkroot[15 * (usize::from(when.satellite) - 1)]);
+            let first = hkroot[15 * (usize::from(when.satellite) - 1)];
+            sum += called.answer.second + u64::from(first) + called.answer.third;
         }
     }
     sum
@@ -101,7 +110,7 @@ fn feed_all(trace: &[u8]) -> u64 {
         at += ENTRY * traced.consumed as usize;
         if traced.answer.kind == 1 {
             let satellite = usize::from(trace[at - ENTRY]);
-            sum += traced.answer.second + u64::from(hkroot[15 * (satellite - 1)]);
+            sum += traced.answer.second + u64::from(hkroot[15 * (satellite - 1)]) + traced.answer.third;
         }
     }
     sum

@@ -12,7 +12,7 @@ import model
 
 ROOT = os.path.dirname(os.path.dirname(os.path.dirname(os.path.abspath(__file__))))
 PROGRAM = os.path.abspath(os.environ.get('REPLAY', os.path.join(ROOT, 'replay')))
-SAMPLE, SAMPLE_ARGUMENTS = os.path.join(ROOT, 'samples', 'night.pages'), ('3', '1200', '60')
+SAMPLE_ARGUMENTS = ('3', '1200', '60')
 # a run that takes longer hangs
 SECONDS = 120
 
@@ -80,7 +80,7 @@ def files(test, all_named, many, seed):
 
 
 def long_files(test):
-    for pages, words in (200000, ('17', '4093', '604001')), (100000, ('1', '0', '1')):
+    for pages, words in (200000, ('17', '4093', '604021')), (100000, ('1', '0', '1')):
         data = cases.long_file(pages, pages)
         test.holds(f'{pages} pages: {shown(words)}', (0, expected(words, data), b''), run(words, data), data)
 
@@ -88,7 +88,7 @@ def long_files(test):
 def wrong_arguments(test):
     for words, number in cases.wrong_arguments():
         right = expected(words, b'')
-        literal = b'refused %d\n' % number if number else b'pages 0 skipped 0 subframes 0 dsms 0 tail 0\n'
+        literal = b'refused %d\n' % number if number else b'pages 0 skipped 0 subframes 0 dsms 0 silent 0 tail 0\n'
         test.holds(f'the model: {shown(words)}', literal, right)
         test.holds(f'arguments: {shown(words)}', (0, right, b''), run(words, b''))
         if number:
@@ -165,19 +165,30 @@ def failures(test, data, words):
     failed('a reader that leaves', (child.wait(timeout=SECONDS), b'', said), b'')
 
 
-def sample(test):
-    maker = os.path.join(ROOT, 'samples', 'make')
-    made = subprocess.run([sys.executable, maker], capture_output=True, timeout=SECONDS).stdout
-    with open(SAMPLE, 'rb') as file:
-        data = file.read()
-    test.holds('samples/night.pages is what samples/make makes', True, made == data)
+def contents(*names):
+    with open(os.path.join(ROOT, *names), 'rb') as file:
+        return file.read()
+
+
+def sample(test, name):
+    """A sample and its lines: it is what samples/make makes, and the program writes what the model does."""
+    made = subprocess.run([sys.executable, os.path.join(ROOT, 'samples', 'make'), name], capture_output=True, timeout=SECONDS).stdout
+    data = contents('samples', f'{name}.pages')
+    test.holds(f'samples/{name}.pages is what samples/make makes', True, made == data)
     right = expected(SAMPLE_ARGUMENTS, data)
-    test.holds('the sample', (0, right, b''), run(SAMPLE_ARGUMENTS, data), data)
-    last = right.splitlines()[-1]
-    test.holds('the sample completes a KROOT and a PKR', [b'D 2 104', b'D 12 169'], [l for l in right.splitlines() if l.startswith(b'D')])
-    with open(os.path.join(ROOT, 'README.md'), 'rb') as file:
-        readme = file.read()
-    for line in right.splitlines()[:2] + [b'D 2 104', b'D 12 169', last]:
+    test.holds(f'the sample {name}', (0, right, b''), run(SAMPLE_ARGUMENTS, data), data)
+    return data, right.splitlines()
+
+
+def samples(test):
+    data, night = sample(test, 'night')
+    test.holds('the night completes a KROOT and a PKR', [b'D 2 104', b'D 12 169'], [l for l in night if l.startswith(b'D')])
+    silence, silent = sample(test, 'silent')
+    test.holds('the silent sample is the example of document 02', [b'pages 15 skipped 0 subframes 0 dsms 0 silent 1 tail 0'], silent)
+    test.holds('`rt check replay` runs the silent sample', (silence, silent),
+               (contents('crates', 'replay', 'stdin'), contents('crates', 'replay', 'stdout').splitlines()))
+    readme = contents('README.md')
+    for line in night[:2] + [b'D 2 104', b'D 12 169', night[-1]] + silent:
         test.holds(f'the README shows the line {line.decode()}', True, b'    ' + line + b'\n' in readme)
     return data
 
@@ -189,7 +200,7 @@ def main():
     apart = told_apart([(words, data) for _, words, data, _ in all_named] + [(words, b'') for words, _ in cases.wrong_arguments()]
                        + [cases.random_file(rng) for _ in range(20)])
     test = Test()
-    data = sample(test)
+    data = samples(test)
     files(test, all_named, many, seed)
     long_files(test)
     wrong_arguments(test)

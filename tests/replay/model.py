@@ -1,6 +1,8 @@
-"""What document 01, "Page replay", says that the program writes, from that page and nothing of the port.
+"""What document 01, "Page replay", and request 2 of document 02 say that the program writes, from their words and nothing of the
+port.
 
-The switches of `Reading` are wrong readings: the test holds its own cases to telling each of them from the right one.
+The switches of `Reading` are wrong readings: the test holds its own cases to telling each of them from the right one. A replay
+brings each word of a subframe once, so that what differs on repeated words alone is left to tests/differential.
 """
 import re
 import sys
@@ -17,16 +19,15 @@ class Reading:
     WRONG = ['time_stands_on_skip', 'skip_not_counted', 'alert_counts', 'any_page_counts', 'odd_first', 'osnma_one_bit_early', 'week_stays',
              'week_4096', 'time_of_the_page', 'latest_copy', 'as_many_as_the_count', 'never_forgets', 'id_kept', 'kroot_counts_of_pkr', 'only_first_subframe',
              'done_forgotten', 'tail_is_a_page', 'no_tail', 'dsm_first', 'bytes_are_blocks', 'range_first',
-             'satellite_zero', 'wraps_at_64_bits', 'empty_is_zero', 'signs']
+             'satellite_zero', 'wraps_at_64_bits', 'empty_is_zero', 'signs',
+             'silent_by_hkroot_alone', 'silent_by_mack_alone', 'silent_but_for_the_last_byte', 'silent_by_the_last_page', 'never_silent', 'always_silent',
+             'silent_before_the_last_page', 'silent_whatever_the_count', 'zeros_not_written', 'silent_is_nothing', 'silent_in_both_counts', 'silent_has_a_line',
+             'silent_passed_on', 'silent_cuts_the_dsm', 'silent_is_skipped']
 
     def __init__(self, wrong=None):
         assert wrong is None or wrong in self.WRONG
-        self.wrong = wrong
-
-    def __getattr__(self, name):
-        if name not in self.WRONG:
-            raise AttributeError(name)
-        return name == self.wrong
+        for name in self.WRONG:
+            setattr(self, name, name == wrong)
 
 
 def bit(page, i):
@@ -87,48 +88,117 @@ class Dsm:
         return self.id, count if self.reading.bytes_are_blocks else 13 * count
 
 
+class Pair:
+    """A satellite's 15 HKROOT and 60 MACK bytes from its pages."""
+
+    def __init__(self, reading):
+        self.reading, self.run, self.count, self.fields = reading, None, 0, [bytes(5)] * 15
+
+    def feed(self, week, time, osnma):
+        """Whether the pair comes out, and whether it is silent."""
+        if self.run != (week, time // 30):
+            self.run, self.count = (week, time // 30), 0
+        word, before = time // 2 % 15, list(self.fields)
+        used = word == self.count
+        if used:
+            self.count += 1
+            if any(osnma) or not self.reading.zeros_not_written:
+                self.fields[word] = osnma
+        out = used and self.count == 15
+        asked = word == 14 if self.reading.silent_whatever_the_count else out
+        return out, asked and self.is_silent(before)
+
+    def hkroot(self):
+        return bytes(field[0] for field in self.fields)
+
+    def is_silent(self, before):
+        """Whether the 75 bytes are all zero; `before` are those that were there before the page."""
+        wrong = self.reading
+        fields = before if wrong.silent_before_the_last_page else self.fields
+        looked_at = b''.join(field[:1] for field in fields if not wrong.silent_by_mack_alone)
+        looked_at += b''.join(field[1:] for field in fields if not wrong.silent_by_hkroot_alone)
+        if wrong.silent_but_for_the_last_byte:
+            looked_at = looked_at[:-1]
+        if wrong.silent_by_the_last_page:
+            looked_at = fields[14]
+        return not wrong.never_silent and (wrong.always_silent or not any(looked_at))
+
+
+class Replay:
+    """A replay of one satellite's pages: its lines, and the totals in the order of the last line."""
+
+    def __init__(self, satellite, week, time, reading):
+        self.satellite, self.week, self.time, self.reading = satellite, week, time, reading
+        self.pair, self.dsm, self.out = Pair(reading), Dsm(reading), []
+        self.totals = dict.fromkeys(['pages', 'skipped', 'subframes', 'dsms', 'silent', 'tail'], 0)
+
+    def counts(self, page):
+        kind = [bit(page, i) for i in (0, 1, 120, 121)]
+        right = [1, 0, 0, 0] if self.reading.odd_first else [0, 0, 1, 0]
+        return kind == right or self.reading.any_page_counts or self.reading.alert_counts and kind == [0, 1, 1, 1]
+
+    def complete(self, line=True):
+        """A pair is handed on: its S line, and its block to the DSM collector."""
+        time = self.time if self.reading.time_of_the_page else self.time // 30 * 30
+        lines = [b'S %d %d %d\n' % (self.satellite, self.week, time)] if line else []
+        hkroot = self.pair.hkroot()
+        done = self.dsm.feed(hkroot[1], hkroot[2:])
+        if done:
+            self.totals['dsms'] += 1
+            lines.append(b'D %d %d\n' % done)
+        self.out += lines[::-1] if self.reading.dsm_first else lines
+
+    def silent(self):
+        wrong = self.reading
+        self.totals['silent'] += not wrong.silent_is_nothing
+        self.totals['subframes'] += wrong.silent_in_both_counts
+        self.totals['skipped'] += 15 * wrong.silent_is_skipped
+        if wrong.silent_has_a_line:
+            self.out.append(b'S %d %d %d\n' % (self.satellite, self.week, self.time // 30 * 30))
+        if wrong.silent_passed_on:
+            self.complete(line=False)
+        if wrong.silent_cuts_the_dsm:
+            self.dsm = Dsm(wrong)
+
+    def take(self, page):
+        """A page that counts."""
+        first = 137 if self.reading.osnma_one_bit_early else 138
+        osnma = int.from_bytes(page, 'big') >> (240 - first - 40) & (1 << 40) - 1
+        out, silent = self.pair.feed(self.week, self.time, osnma.to_bytes(5, 'big'))
+        if silent:
+            self.silent()
+        elif out and not (self.reading.only_first_subframe and self.totals['subframes']):
+            self.totals['subframes'] += 1
+            self.complete()
+
+    def pass_time(self):
+        self.time += 2
+        if self.time >= 604800:
+            self.time -= 604800
+            if not self.reading.week_stays:
+                self.week = self.week + 1 if self.reading.week_4096 else (self.week + 1) % 4096
+
+    def page(self, page):
+        self.totals['pages'] += 1
+        counts = self.counts(page)
+        if counts:
+            self.take(page)
+        else:
+            self.totals['skipped'] += not self.reading.skip_not_counted
+        if counts or not self.reading.time_stands_on_skip:
+            self.pass_time()
+
+
 def replay(words, data, reading=Reading()):
     """What the program writes, for these arguments and this input."""
     asked = arguments(words, reading)
     if isinstance(asked, int):
         return b'refused %d\n' % asked
-    satellite, week, time = asked
-    out, skipped, subframes, dsms = [], 0, 0, 0
-    run, count, hkroot, dsm = None, 0, bytearray(15), Dsm(reading)
-    pages = len(data) // 30
-    for n in range(pages):
-        page = data[30 * n:30 * n + 30]
-        kind = [bit(page, i) for i in (0, 1, 120, 121)]
-        counts = kind == ([1, 0, 0, 0] if reading.odd_first else [0, 0, 1, 0]) or reading.any_page_counts
-        counts = counts or reading.alert_counts and kind == [0, 1, 1, 1]
-        if counts:
-            first = 137 if reading.osnma_one_bit_early else 138
-            osnma = int.from_bytes(page, 'big') >> (240 - first - 40) & (1 << 40) - 1
-            if run != (week, time // 30):
-                run, count = (week, time // 30), 0
-            word = time // 2 % 15
-            if word == count:
-                hkroot[count] = osnma >> 32
-                count += 1
-                if count == 15 and not (reading.only_first_subframe and subframes):
-                    subframes += 1
-                    lines = [b'S %d %d %d\n' % (satellite, week, time if reading.time_of_the_page else time // 30 * 30)]
-                    done = dsm.feed(hkroot[1], bytes(hkroot[2:15]))
-                    if done:
-                        dsms += 1
-                        lines.append(b'D %d %d\n' % done)
-                    out += lines[::-1] if reading.dsm_first else lines
-        else:
-            skipped += 0 if reading.skip_not_counted else 1
-            if reading.time_stands_on_skip:
-                continue
-        time += 2
-        if time >= 604800:
-            time -= 604800
-            if not reading.week_stays:
-                week = week + 1 if reading.week_4096 else (week + 1) % 4096
-    tail = 0 if reading.no_tail else len(data) % 30
-    if reading.tail_is_a_page and tail:
-        pages += 1
-    out.append(b'pages %d skipped %d subframes %d dsms %d tail %d\n' % (pages, skipped, subframes, dsms, tail))
-    return b''.join(out)
+    run = Replay(*asked, reading)
+    whole = len(data) // 30 * 30
+    for at in range(0, whole, 30):
+        run.page(data[at:at + 30])
+    run.totals['tail'] = 0 if reading.no_tail else len(data) - whole
+    run.totals['pages'] += reading.tail_is_a_page and run.totals['tail'] > 0
+    last = ' '.join(f'{name} {number}' for name, number in run.totals.items())
+    return b''.join(run.out) + last.encode() + b'\n'

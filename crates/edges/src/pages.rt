@@ -16,8 +16,8 @@ pub(crate) struct Seen {
     pub wrong: u64,
 }
 
-// A page with its HKROOT byte; an alert does not count.
-pub(crate) fn page(hkroot: u8, is_alert: bool) -> [u8; 30] {
+// A page with its HKROOT byte and its last MACK byte; an alert does not count.
+pub(crate) fn page(hkroot: u8, last: u8, is_alert: bool) -> [u8; 30] {
     let mut bytes = [0u8; 30];
     bytes[15] = 128;
     if is_alert {
@@ -26,6 +26,8 @@ pub(crate) fn page(hkroot: u8, is_alert: bool) -> [u8; 30] {
     }
     bytes[17] = hkroot / 4;
     bytes[18] = hkroot % 4 * 64;
+    bytes[21] = last / 4;
+    bytes[22] = last % 4 * 64;
     bytes
 }
 
@@ -97,9 +99,10 @@ pub(crate) fn one(
     mack: &mut [u8],
     dsm: &mut [u8],
     byte: u8,
+    last: u8,
     is_alert: bool,
 ) -> Seen {
-    let bytes = page(byte, is_alert);
+    let bytes = page(byte, last, is_alert);
     let record = seen.record;
     let done = replay::replay(record, hkroot, mack, dsm, &bytes, 1);
     with(seen, done)

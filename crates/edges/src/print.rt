@@ -40,6 +40,7 @@ fn totals(seen: Seen) {
         record.skipped,
         record.subframes_done,
         record.dsms_done,
+        record.silent,
         0,
     );
     text(&out[..many]);

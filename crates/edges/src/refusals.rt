@@ -98,6 +98,9 @@ fn totals() {
     let mut b = fresh();
     b.dsms_done = 18446744073709551615;
     record(b"2^64 - 1 DSMs", b);
+    let mut c = fresh();
+    c.silent = 4611686018427387905;
+    record(b"more than 2^62 silent subframes", c);
 }
 
 fn ranges() {

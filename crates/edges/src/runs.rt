@@ -2,19 +2,20 @@
 use crate::pages;
 use crate::pages::Seen;
 
-// Pages with a zero field.
-pub(crate) fn zeros(
+// Pages with a zero field but for its last byte.
+pub(crate) fn alike(
     seen: Seen,
     hkroot: &mut [u8],
     mack: &mut [u8],
     dsm: &mut [u8],
+    last: u8,
     is_alert: bool,
     many: usize,
 ) -> Seen {
     let mut seen = seen;
     let mut i = 0;
     while i < many {
-        seen = pages::one(seen, hkroot, mack, dsm, 0, is_alert);
+        seen = pages::one(seen, hkroot, mack, dsm, 0, last, is_alert);
         i += 1;
     }
     seen
@@ -46,7 +47,7 @@ pub(crate) fn block(
     let mut seen = seen;
     let mut i: u8 = 0;
     while i < 15 {
-        seen = pages::one(seen, hkroot, mack, dsm, byte(header, first, i), false);
+        seen = pages::one(seen, hkroot, mack, dsm, byte(header, first, i), 0, false);
         i += 1;
     }
     seen

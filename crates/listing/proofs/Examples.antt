@@ -8,7 +8,7 @@ use Rattle.layouts.specs.Bits.{bit, field, bytesFrom}
 use Rattle.layouts.specs.InavPage.{isCounted, osnma}
 use Rattle.layouts.specs.Lists.{all}
 use Rattle.layouts.specs.Sizes.{krootBlocks}
-use Rattle.subframes.specs.Subframe.{usedAnswer, isUsed, small, changed, used, offered, answerAt, feed as feedPage, view as viewPage}
+use Rattle.subframes.specs.Subframe.{usedAnswer, isUsed, small, changed, zeros, isSilent, answerAt, used, offered, feed as feedPage, view as viewPage}
 use Rattle.dsms.specs.Dsm.{begun, stored, counted as counted-blocks, finished, taken, feed as feedBlock}
 use Rattle.page_replay.specs.Replay.{skipped, counted, fed, pageStep, andThen, replayed, pagesOf, fedHkroot, later}
 use Rattle.texts.specs.Decimal.{only, numberBehind, spelt, digits}
@@ -20,9 +20,9 @@ use Rattle.listing.proofs.KrootExample.{kroot}
 fifteen : Fifteen
 unfolding
     pageLines line bytes digits spelt only numberBehind refusal answered pagesOf replayed andThen pageStep isCounted skipped fed counted usedAnswer isUsed later
-    osnma fedHkroot bit field small changed used offered answerAt feedPage viewPage copied begun stored counted-blocks all finished taken feedBlock krootBlocks
-    bytesFrom
-fifteen = refl
+    osnma fedHkroot bit field small changed zeros isSilent answerAt used offered feedPage viewPage copied begun stored counted-blocks all finished taken
+    feedBlock krootBlocks bytesFrom
+fifteen = record { zeros = refl; but-one = refl }
 
 refused : (input : List ℕ) → Refused input
 unfolding pageLines line bytes digits spelt only numberBehind refusal answered

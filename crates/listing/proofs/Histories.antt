@@ -13,7 +13,7 @@ use Rattle.layouts.specs.Answer.{Answer, refused, nothing, gives, refusal}
 use Rattle.layouts.specs.Gst.{svnGstChecks}
 use Rattle.layouts.specs.Lists.{put as putAt}
 use Rattle.layouts.proofs.Answers.{none-fails, answer-of}
-use Rattle.page_replay.specs.Replay.{State, Run, replayed, pagesOf, wholePages, most, areFew, replayChecks}
+use Rattle.page_replay.specs.Replay.{State, noTotals, Run, replayed, pagesOf, wholePages, most, areFew, replayChecks}
 use Rattle.page_replay.proofs.PageSteps.{start-admitted}
 use Rattle.page_replay.proofs.PageRefusals.{pages-many, all-few, legal, call-admitted}
 use Rattle.page_replay.proofs.PagePieces.{split-anywhere, Good, good-onward, zeros-small}
@@ -270,7 +270,7 @@ module _ (h m d : List ℕ → List ℕ → List ℕ → List ℕ) where
       go (does o z f) = absurd (fits-not s out o z w)
 
 -- The beginning.
-none-yet : areFew (record { pages = 0; skipped = 0; used = 0; unused = 0; subframes = 0; dsms = 0 }) ≡ true
+none-yet : areFew noTotals ≡ true
 unfolding areFew
 none-yet = refl
 
@@ -330,6 +330,7 @@ first-good l e =
             unused-few = omega arith;
             subframes-few = omega arith;
             dsms-few = omega arith;
+            silent-few = omega arith;
           };
       collector =
           record {
@@ -448,7 +449,7 @@ run-few l e input h =
     let f = run-good l e (pagesIn input) .sound in
     sym
     (all-few (replayed (first l) (pagesIn input) .state .totals) (omega (arith, f .pages-few)) (omega (arith, f .skipped-few)) (omega (arith, f .used-few))
-    (omega (arith, f .unused-few)) (omega (arith, f .subframes-few)) (omega (arith, f .dsms-few)))
+    (omega (arith, f .unused-few)) (omega (arith, f .subframes-few)) (omega (arith, f .dsms-few)) (omega (arith, f .silent-few)))
 
 reached-few : (a : Answer) (s : Running) (input output : List ℕ) → Reached a s input output → wholePages input ≤ most → areFew (s .replay .totals) ≡ true
 reached-few a s input output (runs l e g k h) w = ap (λ (t : State). areFew (t .totals)) (k .replay-is) ∙ run-few l g input w

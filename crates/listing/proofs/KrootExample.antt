@@ -10,7 +10,7 @@ use Rattle.layouts.specs.Bits.{bit, field, bytesFrom}
 use Rattle.layouts.specs.InavPage.{isCounted, osnma}
 use Rattle.layouts.specs.Lists.{all}
 use Rattle.layouts.specs.Sizes.{krootBlocks}
-use Rattle.subframes.specs.Subframe.{usedAnswer, isUsed, small, changed, used, offered, answerAt, feed as feedPage, view as viewPage}
+use Rattle.subframes.specs.Subframe.{usedAnswer, isUsed, small, changed, zeros, isSilent, answerAt, used, offered, feed as feedPage, view as viewPage}
 use Rattle.dsms.specs.Dsm.{begun, stored, counted as counted-blocks, finished, taken, feed as feedBlock}
 use Rattle.page_replay.specs.Replay.{Totals, State, Run, skipped, counted, fed, pageStep, andThen, replayed, pagesOf, fedHkroot, later}
 use Rattle.page_replay.proofs.PagePieces.{split-anywhere}
@@ -71,7 +71,7 @@ middle =
             done = false;
             memory = block 0 ++ (block 1 ++ (block 2 ++ (block 3 ++ replicate 156 0)));
           };
-      totals = record { pages = 60; skipped = 0; used = 60; unused = 0; subframes = 4; dsms = 0 };
+      totals = record { pages = 60; skipped = 0; used = 60; unused = 0; subframes = 4; dsms = 0; silent = 0 };
     }
 
 abbrev saidOne : List ℕ
@@ -81,34 +81,34 @@ abbrev saidTwo : List ℕ
 saidTwo = lines ("S 1 4095 604770" ∷ "S 1 0 0" ∷ "S 1 0 30" ∷ "D 2 91" ∷ [])
 
 abbrev total : Totals
-total = record { pages = 106; skipped = 1; used = 105; unused = 0; subframes = 7; dsms = 1 }
+total = record { pages = 106; skipped = 1; used = 105; unused = 0; subframes = 7; dsms = 1; silent = 0 }
 
 lines-one : pageLines (first numbers) one ≡ saidOne
 unfolding
     numbers pageLines line bytes digits spelt refusal pagesOf replayed andThen pageStep isCounted skipped fed counted usedAnswer isUsed later osnma
-    fedHkroot bit field
-    small changed used offered answerAt feedPage viewPage copied begun stored counted-blocks all finished taken feedBlock krootBlocks bytesFrom
+    fedHkroot bit field small changed zeros isSilent answerAt used offered
+    feedPage viewPage copied begun stored counted-blocks all finished taken feedBlock krootBlocks bytesFrom
 lines-one = refl
 
 state-one : replayed (first numbers) one .state ≡ middle
 unfolding
     numbers middle pageLines line bytes digits spelt refusal pagesOf replayed andThen pageStep isCounted skipped fed counted usedAnswer isUsed later
-    osnma fedHkroot bit field
-    small changed used offered answerAt feedPage viewPage copied begun stored counted-blocks all finished taken feedBlock krootBlocks bytesFrom
+    osnma fedHkroot bit field small changed zeros isSilent answerAt used offered
+    feedPage viewPage copied begun stored counted-blocks all finished taken feedBlock krootBlocks bytesFrom
 state-one = refl
 
 lines-two : pageLines middle two ≡ saidTwo
 unfolding
     middle pageLines line bytes digits spelt refusal pagesOf replayed andThen pageStep isCounted skipped fed counted usedAnswer isUsed later osnma
-    fedHkroot bit field
-    small changed used offered answerAt feedPage viewPage copied begun stored counted-blocks all finished taken feedBlock krootBlocks bytesFrom
+    fedHkroot bit field small changed zeros isSilent answerAt used offered
+    feedPage viewPage copied begun stored counted-blocks all finished taken feedBlock krootBlocks bytesFrom
 lines-two = refl
 
 totals-two : replayed middle two .state .totals ≡ total
 unfolding
     middle pageLines line bytes digits spelt refusal pagesOf replayed andThen pageStep isCounted skipped fed counted usedAnswer isUsed later osnma
-    fedHkroot bit field
-    small changed used offered answerAt feedPage viewPage copied begun stored counted-blocks all finished taken feedBlock krootBlocks bytesFrom
+    fedHkroot bit field small changed zeros isSilent answerAt used offered
+    feedPage viewPage copied begun stored counted-blocks all finished taken feedBlock krootBlocks bytesFrom
 totals-two = refl
 
 -- both

@@ -6,12 +6,10 @@ use native.Mathlib.Omega.{arith}
 use mathlib.Core.Path.{_≡_, refl, sym, ap, _∙_}
 use mathlib.Core.List.{List, [], _∷_, _++_, append-nil, append-assoc}
 use mathlib.Core.Bool.{Bool, true, false, cond}
-use lib.ListN.{length, getD, take, drop, length-append, length-drop, take-append-drop}
+use lib.ListN.{length, take, drop, length-append, length-drop, take-append-drop}
 use lib.Seq.{length-take-le, take-append-le, drop-append-le, drop-append-add}
-use lib.Dec.{eqb}
-use Rattle.layouts.specs.Answer.{Answer, refused, nothing, gives, refusal}
 use Rattle.layouts.specs.InavPage.{isCounted}
-use Rattle.subframes.specs.Subframe.{Page, wordOf, State as Subframes, Fed as SubframesFed, feedChecks, answerAt, used, offered, feed as feedPage}
+use Rattle.subframes.specs.Subframe.{State as Subframes, feed as feedPage}
 use Rattle.dsms.specs.Dsm.{State as Dsms}
 use Rattle.page_replay.specs.Replay.{Time, Dsm, State, Run, subframesIn, dsmsIn, passedOn, skipped, counted, fedPage, fed, pageStep, andThen, replayed}
 use Rattle.page_replay.specs.Replay.{pagesOf, wholePages}
@@ -90,41 +88,10 @@ module _ (a b : List ℕ) where
       ap (λ (l : List ℕ). drop (30 * wholePages (a ++ b)) l) (sym whole-join)
       ∙ ap (λ (j : ℕ). drop j (front a ++ x)) k ∙ drop-append-add (front a) x (30 * wholePages x)
 
--- A DSM comes with a subframe: a page that completes no subframe completes no DSM.
-data Shape : Answer → Type 0 where
-  shape-refused : {n : ℕ} → Shape (refused n)
-  shape-nothing : Shape nothing
-  shape-pair : {w t : ℕ} → Shape (gives (w ∷ t ∷ []))
-
-shape-answer : (n week subframe : ℕ) → Shape (answerAt n week subframe)
-unfolding answerAt
-shape-answer n week subframe = go (eqb n 15)
-  where
-    go : (b : Bool) → Shape (cond b (gives (week ∷ 30 * subframe ∷ [])) nothing)
-    go true = shape-pair
-    go false = shape-nothing
-
-shape-offered : (s : Subframes) (bytes : List ℕ) (i w : ℕ) → Shape (offered s bytes i w .answer)
-unfolding offered used
-shape-offered s bytes i w = go (eqb w (getD (s .counts) i 0))
-  where
-    go : (b : Bool) → Shape (cond {A = SubframesFed} b (used s bytes i w) (record { state = s; answer = nothing }) .answer)
-    go true = shape-answer (w + 1) (s .week) (s .subframe)
-    go false = shape-nothing
-
-shape : (s : Subframes) (p : Page) → Shape (feedPage s p .answer)
-unfolding feedPage
-shape s p = go (eqb (refusal (feedChecks s p)) 0) _ (shape-offered _ _ _ (wordOf (p .time)))
-  where
-    go : (b : Bool) (x : SubframesFed) → Shape (x .answer)
-        → Shape (cond {A = SubframesFed} b x (record { state = s; answer = refused (refusal (feedChecks s p)) }) .answer)
-    go true x h = h
-    go false x h = shape-refused
-
-shape-dsms : {a : Answer} → Shape a → (s : Subframes) (n : ℕ) (d : Dsms) → subframesIn a ≡ [] → dsmsIn (passedOn a s n d .answer) ≡ []
-shape-dsms shape-refused s n d h = refl
-shape-dsms shape-nothing s n d h = refl
-shape-dsms (shape-pair) s n d h = let z : _≡_ {A = ℕ} 0 1 = cc in absurd (omega arith)
+-- A DSM comes with a subframe: where none is complete none is passed on.
+none-passed : (l : List Time) (s : Subframes) (n : ℕ) (d : Dsms) → l ≡ [] → dsmsIn (passedOn l s n d .answer) ≡ []
+none-passed [] s n d h = refl
+none-passed (t ∷ l) s n d h = let z : _≡_ {A = ℕ} 0 1 = cc in absurd (omega arith)
 
 -- what one page does not complete
 abbrev Alone : Run → Type 0
@@ -135,7 +102,7 @@ unfolding pageStep fed counted skipped
 step-alone s page = go (isCounted page)
   where
     go : (b : Bool) → Alone (cond b (fed s (fedPage s page)) (skipped s))
-    go true h = shape-dsms (shape (s .subframes) (fedPage s page)) _ _ _ h
+    go true h = none-passed (subframesIn (feedPage (s .subframes) (fedPage s page) .answer)) _ _ _ h
     go false h = refl
 
 step-satellite : (s : State) (page : List ℕ) → pageStep s page .state .satellite ≡ s .satellite

@@ -8,12 +8,11 @@ use mathlib.Core.List.{List, [], _++_, append-nil}
 use lib.ListN.{length, take, drop, length-append, take-append-drop}
 use Rattle.layouts.specs.Lists.{put as putAt}
 use Rattle.texts.specs.Decimal.{most}
-use Rattle.texts.specs.Lines.{bytes, line, subframeParts, dsmParts, totalsParts, refusedParts}
+use Rattle.texts.specs.Lines.{line, subframeParts, dsmParts, totalsParts, refusedParts}
 use Rattle.texts.specs.Puts.{meaning-end, PutText}
 use Rattle.texts.specs.declared.put.End.{End}
-use Rattle.texts.proofs.Decimals.{digits-few}
 use Rattle.texts.proofs.PutTexts.{put-fits}
-use Rattle.texts.proofs.Written.{put, put-put}
+use Rattle.texts.proofs.Written.{put, put-put, subframe-few, dsm-few, totals-few, refused-few}
 use Rattle.page_replay.specs.ReplayPromises.{meaning-subframes, meaning-dsms}
 use Rattle.page_replay.specs.declared.replay.SubframeDone.{SubframeDone}
 use Rattle.page_replay.specs.declared.replay.SubframeDone.the-variants.{None, Subframe}
@@ -21,38 +20,6 @@ use Rattle.page_replay.specs.declared.replay.DsmDone.{DsmDone}
 use Rattle.page_replay.specs.declared.replay.DsmDone.the-variants.{None as NoDsm, Dsm as DsmIs}
 use Rattle.listing.specs.Listing.{subframeLines, dsmLines}
 use Rattle.listing.specs.inner.Puts.{Puts, endIn}
-
--- A line is short.
-module _ (a b c : ℕ) (ha : a ≤ most) (hb : b ≤ most) (hc : c ≤ most) where
-  subframe-few : length (line (subframeParts a b c)) ≤ 96
-  unfolding line bytes
-  subframe-few =
-      let da = digits-few a ha in
-      let db = digits-few b hb in
-      let dc = digits-few c hc in
-      simp length-append (omega arith)
-
-module _ (a b : ℕ) (ha : a ≤ most) (hb : b ≤ most) where
-  dsm-few : length (line (dsmParts a b)) ≤ 96
-  unfolding line bytes
-  dsm-few =
-      let da = digits-few a ha in
-      let db = digits-few b hb in
-      simp length-append (omega arith)
-
-refused-few : (a : ℕ) → a ≤ most → length (line (refusedParts a)) ≤ 256
-unfolding line bytes
-refused-few a ha = let da = digits-few a ha in simp length-append (omega arith)
-
-totals-few : (a b c d e : ℕ) → a ≤ most → b ≤ most → c ≤ most → d ≤ most → e ≤ most → length (line (totalsParts a b c d e)) ≤ 256
-unfolding line bytes
-totals-few a b c d e ha hb hc hd he =
-    let da = digits-few a ha in
-    let db = digits-few b hb in
-    let dc = digits-few c hc in
-    let dd = digits-few d hd in
-    let de = digits-few e he in
-    simp length-append (omega arith)
 
 -- a text that has room
 pub puts-text :
@@ -113,11 +80,12 @@ pub a-refusal :
     → Puts (line (refusedParts n)) out 0 after r
 a-refusal n out e h room p q = let few = refused-few n h in puts-text (line (refusedParts n)) out 0 e (omega arith) p q
 
-pub all-totals : (a b c d t : ℕ) (out : List ℕ) (e : End) {after : List ℕ} {r : ℕ} → a ≤ most → b ≤ most → c ≤ most → d ≤ most → t ≤ most → 256 ≤ length out
-    → PutText (line (totalsParts a b c d t)) out 0 e after → r ≡ endIn (meaning-end e) → Puts (line (totalsParts a b c d t)) out 0 after r
-all-totals a b c d t out e ha hb hc hd ht room p q =
-    let few = totals-few a b c d t ha hb hc hd ht in
-    puts-text (line (totalsParts a b c d t)) out 0 e (omega arith) p q
+pub all-totals :
+    (a b c d s t : ℕ) (out : List ℕ) (e : End) {after : List ℕ} {r : ℕ} → a ≤ most → b ≤ most → c ≤ most → d ≤ most → s ≤ most → t ≤ most → 256 ≤ length out
+    → PutText (line (totalsParts a b c d s t)) out 0 e after → r ≡ endIn (meaning-end e) → Puts (line (totalsParts a b c d s t)) out 0 after r
+all-totals a b c d s t out e ha hb hc hd hs ht room p q =
+    let few = totals-few a b c d s t ha hb hc hd hs ht in
+    puts-text (line (totalsParts a b c d s t)) out 0 e (omega arith) p q
 
 -- One after the other.
 pub puts-both : {s t out mid after : List ℕ} {at end : ℕ} → Puts s out 0 mid at → Puts t mid at after end → Puts (s ++ t) out 0 after end

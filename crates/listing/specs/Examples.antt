@@ -1,4 +1,4 @@
--- The listing of some arguments and inputs, computed: document 01, "Page replay".
+-- The listing of some arguments and inputs, computed: document 01, "Page replay", and document 02, [2].
 -- Assumes nothing.
 use Prim.Native.Nat.{ℕ, zero, suc, _+_, _*_, _/_, _%_}
 use Prim.Native.String.{String}
@@ -21,19 +21,27 @@ abbrev pub pieces : List (List ℕ) → List ℕ
 pieces [] = []
 pieces (p ∷ ps) = p ++ pieces ps
 
--- a page that counts, with that byte in front of its OSNMA field: "A page counts if bits 0, 1, 120, 121 are 0, 0, 1, 0; OSNMA is bits 138..177."
+-- a page that counts, with these bytes at the start and at the end of its OSNMA field: "A page counts if bits 0, 1, 120, 121 are 0, 0, 1, 0; OSNMA is bits
+-- 138..177." The first is its HKROOT byte, the other the last of its MACK bytes.
+abbrev pub pageOf : ℕ → ℕ → List ℕ
+pageOf b c = replicate 15 0 ++ (128 ∷ 0 ∷ b / 4 ∷ (b % 4) * 64 ∷ 0 ∷ 0 ∷ c / 4 ∷ (c % 4) * 64 ∷ replicate 7 0)
+
 abbrev pub page : ℕ → List ℕ
-page b = replicate 15 0 ++ (128 ∷ 0 ∷ b / 4 ∷ (b % 4) * 64 ∷ replicate 11 0)
+page b = pageOf b 0
 
 abbrev pub pages : List ℕ → List ℕ
 pages [] = []
 pages (b ∷ bs) = page b ++ pages bs
 
--- "Fifteen good pages with a zero field, satellite 3, week 1200, time 60"
-abbrev pub Fifteen : Type 0
-Fifteen =
-    listing (texts ("3" ∷ "1200" ∷ "60" ∷ [])) (pages (replicate 15 0))
-    ≡ lines ("S 3 1200 60" ∷ "pages 15 skipped 0 subframes 1 dsms 0 tail 0" ∷ [])
+-- "Fifteen good pages with a zero field, satellite 3, week 1200, time 60". Document 02, [2]: "document 01's listing becomes no S line and .."; and the same
+-- pages where the last of the 75 bytes is 1.
+pub record Fifteen : Type 0 where
+  pub zeros :
+      listing (texts ("3" ∷ "1200" ∷ "60" ∷ [])) (pages (replicate 15 0))
+      ≡ lines ("pages 15 skipped 0 subframes 0 dsms 0 silent 1 tail 0" ∷ [])
+  pub but-one :
+      listing (texts ("3" ∷ "1200" ∷ "60" ∷ [])) (pages (replicate 14 0) ++ pageOf 0 1)
+      ≡ lines ("S 3 1200 60" ∷ "pages 15 skipped 0 subframes 1 dsms 0 silent 0 tail 0" ∷ [])
 
 -- the HKROOT message of block k of a KROOT with ID 2: NMA header, DSM header, the block; block 0 begins with the count, 1, for 7 blocks
 abbrev pub hkroot : ℕ → ℕ → List ℕ
@@ -63,7 +71,7 @@ krootLines =
     []
 
 abbrev pub krootTotals : String
-krootTotals = "pages 106 skipped 1 subframes 7 dsms 1 tail 4"
+krootTotals = "pages 106 skipped 1 subframes 7 dsms 1 silent 0 tail 4"
 
 abbrev pub Kroot : Type 0
 Kroot = listing krootArguments krootInput ≡ lines krootLines ++ lines (krootTotals ∷ [])
@@ -83,8 +91,8 @@ pub record Refused (input : List ℕ) : Type 0 where
 
 -- no pages, and zeros before the digits; a tail alone
 pub record Few : Type 0 where
-  pub no-pages : listing (texts ("036" ∷ "04095" ∷ "0604799" ∷ [])) [] ≡ lines ("pages 0 skipped 0 subframes 0 dsms 0 tail 0" ∷ [])
-  pub tail-alone : listing (texts ("1" ∷ "0" ∷ "0" ∷ [])) (replicate 29 0) ≡ lines ("pages 0 skipped 0 subframes 0 dsms 0 tail 29" ∷ [])
+  pub no-pages : listing (texts ("036" ∷ "04095" ∷ "0604799" ∷ [])) [] ≡ lines ("pages 0 skipped 0 subframes 0 dsms 0 silent 0 tail 0" ∷ [])
+  pub tail-alone : listing (texts ("1" ∷ "0" ∷ "0" ∷ [])) (replicate 29 0) ≡ lines ("pages 0 skipped 0 subframes 0 dsms 0 silent 0 tail 29" ∷ [])
 
 pub record Examples : Type 0 where
   pub fifteen : Fifteen

@@ -1,4 +1,4 @@
--- The listing: all that `./replay` writes to standard output, from its arguments and its input. Document 01, "Page replay".
+-- The listing: all that `./replay` writes to standard output, from its arguments and its input. Document 01, "Page replay"; document 02, [2].
 -- Assumes nothing.
 use Prim.Native.Nat.{ℕ, _%_}
 use mathlib.Core.List.{List, [], _∷_, _++_}
@@ -35,9 +35,9 @@ unfoldable pub pageLines : State → List (List ℕ) → List ℕ
 pageLines s [] = []
 pageLines s (page ∷ pages) = completed (s .satellite) (pageStep s page) ++ pageLines (pageStep s page .state) pages
 
--- "pages 15 skipped 0 subframes 1 dsms 0 tail 0": "Pages include skipped ones; tail is leftover bytes, 0..29."
+-- Document 02, [2]: "pages 15 skipped 0 subframes 0 dsms 0 silent 1 tail 0"; document 01: "Pages include skipped ones; tail is leftover bytes, 0..29."
 abbrev pub totalsLine : Totals → ℕ → List ℕ
-totalsLine t tail = line (totalsParts (t .pages) (t .skipped) (t .subframes) (t .dsms) tail)
+totalsLine t tail = line (totalsParts (t .pages) (t .skipped) (t .subframes) (t .dsms) (t .silent) tail)
 
 -- the whole pages of the input
 abbrev pub pagesIn : List ℕ → List (List ℕ)

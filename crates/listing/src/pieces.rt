@@ -297,7 +297,8 @@ pub fn finish(
     let skipped = record.skipped;
     let subframes = record.subframes_done;
     let dsms = record.dsms_done;
-    let written = put::totals(out, pages, skipped, subframes, dsms, listing.held);
+    let silent = record.silent;
+    let written = put::totals(out, pages, skipped, subframes, dsms, silent, listing.held);
     ListingStep {
         listing,
         answer: ListingAnswer::Told { taken: 0, written },

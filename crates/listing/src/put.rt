@@ -84,12 +84,13 @@ pub(crate) fn totals(
     skipped: u64,
     subframes: u64,
     dsms: u64,
+    silent: u64,
     tail: usize,
 ) -> usize
     requires { ⌜ 256 ≤ length (now out) ⌝ }
-    ensures { λ r. ⌜ Puts (line (totalsParts pages skipped subframes dsms tail)) (now (out .entry)) 0 (now (out .exit)) r ⌝ }
+    ensures { λ r. ⌜ Puts (line (totalsParts pages skipped subframes dsms silent tail)) (now (out .entry)) 0 (now (out .exit)) r ⌝ }
 {
-    end_of(lines::totals_at(out, 0, pages, skipped, subframes, dsms, tail))
+    end_of(lines::totals_at(out, 0, pages, skipped, subframes, dsms, silent, tail))
 }
 
 // The only line, where the arguments are refused.

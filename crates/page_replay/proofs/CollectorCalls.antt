@@ -1,19 +1,16 @@
 -- Pages and blocks that are fed one by one are a history of the collector's own calls.
 -- Assumes nothing.
-use Prim.Native.Nat.{ℕ, _+_, _-_, _*_}
-use mathlib.Core.Path.{_≡_, refl, ap, subst, subst⁻¹}
+use Prim.Native.Nat.{ℕ, _+_, _-_}
+use mathlib.Core.Path.{_≡_, ap, subst, subst⁻¹}
 use mathlib.Core.List.{List, [], _∷_, _++_, append-nil, append-assoc}
-use mathlib.Core.Bool.{Bool, true, false, cond}
-use lib.ListN.{getD}
-use lib.Dec.{eqb}
-use Rattle.layouts.specs.Answer.{Answer, refused, nothing, gives, refusal}
-use Rattle.subframes.specs.Subframe.{Page, State as Subframes, Fed as SubframesFed, wordOf, subframeOf, feedChecks, changed, answerAt, used, offered}
-use Rattle.subframes.specs.Subframe.{feed as feedPage}
-use Rattle.subframes.specs.SubframePromises.{state as subframeState, meaning-subframe, FeedSubframe}
+use Rattle.layouts.specs.Answer.{Answer}
+use Rattle.subframes.specs.Subframe.{Page, feed as feedPage}
+use Rattle.subframes.specs.SubframePromises.{state as subframeState, FeedSubframe}
 use Rattle.subframes.specs.SubframeHistory.{History as SubframeHistory, called as page-by, one as page-fed}
 use Rattle.subframes.specs.declared.subframe.CollectSubframe.{CollectSubframe}
 use Rattle.subframes.specs.declared.subframe.SubframeFed.{SubframeFed}
 use Rattle.subframes.proofs.SubframeUnique.{back-subframe, back-state as back-collector}
+use Rattle.subframes.proofs.SubframeHistory.{fed-coded}
 use Rattle.subframes.specs.SubframeRecovery.{after as afterPages}
 use Rattle.dsms.specs.Dsm.{State as Dsms, Fed as DsmsFed}
 use Rattle.dsms.specs.DsmPromises.{state as dsmState}
@@ -25,27 +22,6 @@ use Rattle.dsms.specs.DsmRecovery.{Call as Block, fedTo, after as afterBlocks}
 use Rattle.page_replay.specs.ReplayPromises.{state}
 
 -- Every answer of the subframe collector's definition is one of its code's, so that each page is a call.
-abbrev Coded : Answer → Type 0
-Coded a = meaning-subframe (back-subframe a) ≡ a
-
-fed-coded : (t : Subframes) (p : Page) → Coded (feedPage t p .answer)
-unfolding feedPage offered used answerAt
-fed-coded t p = go (eqb (refusal (feedChecks t p)) 0) (eqb (wordOf (p .time)) (getD (u .counts) (p .satellite - 1) 0)) (eqb (wordOf (p .time) + 1) 15)
-  where
-    u : Subframes
-    u = changed t (p .week) (subframeOf (p .time))
-
-    go : (a b c : Bool)
-        → Coded (cond {A = SubframesFed} a
-        (cond {A = SubframesFed} b
-        (record { state = used u (p .bytes) (p .satellite - 1) (wordOf (p .time)) .state; answer = cond c (gives (u .week ∷ 30 * u .subframe ∷ [])) nothing })
-        (record { state = u; answer = nothing }))
-        (record { state = t; answer = refused (refusal (feedChecks t p)) }) .answer)
-    go true true true = refl
-    go true true false = refl
-    go true false c = refl
-    go false b c = refl
-
 page-called : {c : CollectSubframe} {h m : List ℕ} {qs : List Page} → SubframeHistory c h m qs → (p : Page)
     → let f = feedPage (subframeState c h m) p .state in SubframeHistory (back-collector f) (f .hkroot) (f .mack) (qs ++ (p ∷ []))
 page-called {c} {h} {m} k p =

@@ -15,8 +15,8 @@ use Rattle.layouts.specs.Answer.{Answer, refused, nothing, gives, refusal}
 use Rattle.subframes.specs.Subframe.{usedAnswer, Page, wordOf, State as Subframes, Fed as SubframesFed, feedChecks, used, offered, feed as feedPage}
 use Rattle.layouts.specs.InavPage.{isCounted}
 use Rattle.dsms.specs.Dsm.{State as Dsms}
-use Rattle.page_replay.specs.Replay.{Time, later, State, Run, start, isTaken, subframesIn, dsmsIn, passedOn, skipped, counted, fedPage, fed, pageStep}
-use Rattle.page_replay.specs.Replay.{andThen, onward, replayed, pagesOf, most}
+use Rattle.page_replay.specs.Replay.{Time, later, State, Run, start, isTaken, subframesIn, silentIn, dsmsIn, passedOn, skipped, counted}
+use Rattle.page_replay.specs.Replay.{fedPage, fed, pageStep, andThen, onward, replayed, pagesOf, most}
 use Rattle.page_replay.specs.ReplayPromises.{state}
 use Rattle.page_replay.specs.inner.Steps.{ran, AtMostOne, InRange, Room}
 use Rattle.page_replay.specs.declared.replay.PageReplay.{PageReplay}
@@ -36,17 +36,24 @@ none-in (refused n) h = refl
 none-in nothing h = refl
 none-in (gives l) h = let z : _≡_ {A = ℕ} 0 1 = cc in absurd (omega arith)
 
-none-passed : (a : Answer) (s : Subframes) (n : ℕ) (d : Dsms) → isDone a ≡ false → dsmsIn (passedOn a s n d .answer) ≡ []
+none-silent : (a : Answer) → isDone a ≡ false → silentIn a ≡ []
+none-silent (refused n) h = refl
+none-silent nothing h = refl
+none-silent (gives l) h = let z : _≡_ {A = ℕ} 0 1 = cc in absurd (omega arith)
+
+none-passed : (a : Answer) (s : Subframes) (n : ℕ) (d : Dsms) → isDone a ≡ false → dsmsIn (passedOn (subframesIn a) s n d .answer) ≡ []
 none-passed (refused m) s n d h = refl
 none-passed nothing s n d h = refl
 none-passed (gives l) s n d h = let z : _≡_ {A = ℕ} 0 1 = cc in absurd (omega arith)
 
-pub subframe-few : (a : Answer) → length (subframesIn a) ≤ 1
-subframe-few (refused n) = omega arith
-subframe-few nothing = omega arith
-subframe-few (gives []) = omega arith
-subframe-few (gives (w ∷ [])) = omega arith
-subframe-few (gives (w ∷ t ∷ l)) = omega arith
+-- no more than one subframe, complete or silent
+pub pair-few : (a : Answer) → length (subframesIn a) + length (silentIn a) ≤ 1
+pair-few (refused n) = omega arith
+pair-few nothing = omega arith
+pair-few (gives []) = omega arith
+pair-few (gives (w ∷ [])) = omega arith
+pair-few (gives (w ∷ t ∷ [])) = omega arith
+pair-few (gives (w ∷ t ∷ n ∷ l)) = omega arith
 
 pub dsm-few : (a : Answer) → length (dsmsIn a) ≤ 1
 dsm-few (refused n) = omega arith
@@ -61,7 +68,7 @@ unfolding offered used
 offered-quiet s bytes i w ne = go (eqb w (getD (s .counts) i 0))
   where
     go : (b : Bool) → cond {A = SubframesFed} b (used s bytes i w) (record { state = s; answer = nothing }) .answer ≡ nothing
-    go true = sym (answer-less (w + 1) (s .week) (s .subframe) (λ e. ne (omega arith)))
+    go true = sym (answer-less (w + 1) (s .week) (s .subframe) _ (λ e. ne (omega arith)))
     go false = refl
 
 feed-quiet : (s : Subframes) (p : Page) → (wordOf (p .time) ≡ 14 → ⊥) → isDone (feedPage s p .answer) ≡ false
@@ -78,6 +85,9 @@ feed-quiet s p ne = go (eqb (refusal (feedChecks s p)) 0) _ (offered-quiet _ _ _
 pub record Step (s : State) (r : Run) : Type 0 where
   pub one-subframe : length (r .subframes) ≤ 1
   pub one-dsm : length (r .dsms) ≤ 1
+  pub one-pair : length (r .subframes) + r .state .totals .silent ≤ 1 + s .totals .silent
+  pub more-silent : s .totals .silent ≤ r .state .totals .silent
+  pub no-silent : (wordOf (s .next .time) ≡ 14 → ⊥) → r .state .totals .silent ≡ s .totals .silent
   pub no-subframe : (wordOf (s .next .time) ≡ 14 → ⊥) → r .subframes ≡ []
   pub no-dsm : (wordOf (s .next .time) ≡ 14 → ⊥) → r .dsms ≡ []
   pub next-is : r .state .next ≡ later (s .next)
@@ -85,12 +95,13 @@ pub record Step (s : State) (r : Run) : Type 0 where
 fed-step : (s : State) (page : List ℕ) → Step s (fed s (fedPage s page))
 unfolding fed counted
 fed-step s page =
+    let f = feedPage (s .subframes) (fedPage s page) in
     record {
-      one-subframe = subframe-few (feedPage (s .subframes) (fedPage s page) .answer);
-      one-dsm =
-          dsm-few
-          (passedOn (feedPage (s .subframes) (fedPage s page) .answer) (feedPage (s .subframes) (fedPage s page) .state) (s .satellite)
-          (s .dsms) .answer);
+      one-subframe = omega (arith, pair-few (f .answer));
+      one-dsm = dsm-few (passedOn (subframesIn (f .answer)) (f .state) (s .satellite) (s .dsms) .answer);
+      one-pair = omega (arith, pair-few (f .answer));
+      more-silent = omega arith;
+      no-silent = λ ne. let none = ap length (none-silent (f .answer) (feed-quiet (s .subframes) (fedPage s page) ne)) in omega (arith, none);
       no-subframe = λ ne. none-in (feedPage (s .subframes) (fedPage s page) .answer) (feed-quiet (s .subframes) (fedPage s page) ne);
       no-dsm = λ ne. none-passed (feedPage (s .subframes) (fedPage s page) .answer) _ _ _ (feed-quiet (s .subframes) (fedPage s page) ne);
       next-is = refl;
@@ -98,7 +109,17 @@ fed-step s page =
 
 skipped-step : (s : State) → Step s (skipped s)
 unfolding skipped
-skipped-step s = record { one-subframe = omega arith; one-dsm = omega arith; no-subframe = λ ne. refl; no-dsm = λ ne. refl; next-is = refl }
+skipped-step s =
+    record {
+      one-subframe = omega arith;
+      one-dsm = omega arith;
+      one-pair = omega arith;
+      more-silent = omega arith;
+      no-silent = λ ne. refl;
+      no-subframe = λ ne. refl;
+      no-dsm = λ ne. refl;
+      next-is = refl;
+    }
 
 pub step-does : (s : State) (page : List ℕ) → Step s (pageStep s page)
 unfolding pageStep
@@ -137,11 +158,17 @@ word-first t h = go (ltb (t .time + 2) 604800) refl
 abbrev word : Run → ℕ
 word r = wordOf (r .state .next .time)
 
+-- completed and silent subframes together
+abbrev pairs : Run → ℕ
+pairs r = length (r .subframes) + r .state .totals .silent
+
 pub record More (r x : Run) : Type 0 where
   pub subframes-more : length (x .subframes) ≤ length (r .subframes) + 1
   pub dsms-more : length (x .dsms) ≤ length (r .dsms) + 1
+  pub pairs-more : pairs x ≤ pairs r + 1
   pub subframes-same : (word r ≡ 14 → ⊥) → x .subframes ≡ r .subframes
   pub dsms-same : (word r ≡ 14 → ⊥) → x .dsms ≡ r .dsms
+  pub pairs-same : (word r ≡ 14 → ⊥) → pairs x ≡ pairs r
   pub word-next : (word r ≡ 14 → ⊥) → word x ≡ word r + 1
   pub word-new : word r ≡ 14 → word x ≡ 0
 
@@ -152,49 +179,69 @@ more r page =
     record {
       subframes-more = rw length-append (omega (arith, s .one-subframe));
       dsms-more = rw length-append (omega (arith, s .one-dsm));
+      pairs-more = rw length-append (omega (arith, s .one-pair));
       subframes-same = λ ne. rw (s .no-subframe ne) (append-nil (r .subframes));
       dsms-same = λ ne. rw (s .no-dsm ne) (append-nil (r .dsms));
+      pairs-same = λ ne. rw length-append (omega (arith, ap length (s .no-subframe ne), s .no-silent ne));
       word-next = λ ne. ap (λ (t : Time). wordOf (t .time)) (s .next-is) ∙ word-later (r .state .next) ne;
       word-new = λ h. ap (λ (t : Time). wordOf (t .time)) (s .next-is) ∙ word-first (r .state .next) h;
     }
 
-quiet : (ps : List (List ℕ)) (r : Run) → word r + length ps ≤ 14 → (onward r ps .subframes ≡ r .subframes) × (onward r ps .dsms ≡ r .dsms)
-quiet [] r h = (refl, refl)
+-- what no page before word 14 changes, and what fifteen can
+record Quiet (r x : Run) : Type 0 where
+  subframes-are : x .subframes ≡ r .subframes
+  dsms-are : x .dsms ≡ r .dsms
+  pairs-are : pairs x ≡ pairs r
+
+record Few (r x : Run) : Type 0 where
+  subframes-few : length (x .subframes) ≤ length (r .subframes) + 1
+  dsms-few : length (x .dsms) ≤ length (r .dsms) + 1
+  pairs-few : pairs x ≤ pairs r + 1
+
+quiet : (ps : List (List ℕ)) (r : Run) → word r + length ps ≤ 14 → Quiet r (onward r ps)
+quiet [] r h = record { subframes-are = refl; dsms-are = refl; pairs-are = refl }
 quiet (p ∷ ps) r h =
     let m = more r p in
     let ne : word r ≡ 14 → ⊥ = λ e. omega arith in
     let ih = quiet ps (andThen r p) (omega (arith, m .word-next ne)) in
-    (ih .0 ∙ m .subframes-same ne, ih .1 ∙ m .dsms-same ne)
+    record {
+      subframes-are = ih .subframes-are ∙ m .subframes-same ne;
+      dsms-are = ih .dsms-are ∙ m .dsms-same ne;
+      pairs-are = ih .pairs-are ∙ m .pairs-same ne;
+    }
 
-at-most :
-    (ps : List (List ℕ)) (r : Run) → word r + length ps ≤ 29
-    → (length (onward r ps .subframes) ≤ length (r .subframes) + 1) × (length (onward r ps .dsms) ≤ length (r .dsms) + 1)
-at-most [] r h = (omega arith, omega arith)
+at-most : (ps : List (List ℕ)) (r : Run) → word r + length ps ≤ 29 → Few r (onward r ps)
+at-most [] r h = record { subframes-few = omega arith; dsms-few = omega arith; pairs-few = omega arith }
 at-most (p ∷ ps) r h = go (eqb (word r) 14) refl (more r p) (at-most ps (andThen r p)) (quiet ps (andThen r p))
   where
     go : (b : Bool) → eqb (word r) 14 ≡ b → More r (andThen r p)
-        →
-        (word (andThen r p) + length ps ≤ 29
-        → (length (onward (andThen r p) ps .subframes) ≤ length (andThen r p .subframes) + 1)
-        × (length (onward (andThen r p) ps .dsms) ≤ length (andThen r p .dsms) + 1))
-        →
-        (word (andThen r p) + length ps ≤ 14
-        → (onward (andThen r p) ps .subframes ≡ andThen r p .subframes) × (onward (andThen r p) ps .dsms ≡ andThen r p .dsms))
-        → (length (onward (andThen r p) ps .subframes) ≤ length (r .subframes) + 1) × (length (onward (andThen r p) ps .dsms) ≤ length (r .dsms) + 1)
+        → (word (andThen r p) + length ps ≤ 29 → Few (andThen r p) (onward (andThen r p) ps))
+        → (word (andThen r p) + length ps ≤ 14 → Quiet (andThen r p) (onward (andThen r p) ps)) → Few r (onward (andThen r p) ps)
     go true e m ih k =
         let last : word r ≡ 14 = eqb-true (word r) 14 e in
         let q = k (omega (arith, m .word-new last)) in
-        (rw (q .0) (m .subframes-more), rw (q .1) (m .dsms-more))
+        record {
+          subframes-few = rw (q .subframes-are) (m .subframes-more);
+          dsms-few = rw (q .dsms-are) (m .dsms-more);
+          pairs-few = omega (arith, q .pairs-are, m .pairs-more);
+        }
     go false e m ih k =
         let ne : word r ≡ 14 → ⊥ = eqb-false (word r) 14 e in
         let q = ih (omega (arith, m .word-next ne)) in
-        (omega (arith, q .0, ap length (m .subframes-same ne)), omega (arith, q .1, ap length (m .dsms-same ne)))
+        record {
+          subframes-few = omega (arith, q .subframes-few, ap length (m .subframes-same ne));
+          dsms-few = omega (arith, q .dsms-few, ap length (m .dsms-same ne));
+          pairs-few = omega (arith, q .pairs-few, m .pairs-same ne);
+        }
 
-pub at-most-one : (s : State) (ps : List (List ℕ)) → length ps ≤ 15 → AtMostOne (replayed s ps)
-unfolding replayed
-at-most-one s ps h =
-    let q = at-most ps (start s) (omega arith) in
-    record { subframe-one = q .0; dsm-one = q .1 }
+module _ (s : State) (ps : List (List ℕ)) (h : length ps ≤ 15) where
+  pub at-most-one : AtMostOne (replayed s ps)
+  unfolding replayed
+  at-most-one = let q = at-most ps (start s) (omega arith) in record { subframe-one = q .subframes-few; dsm-one = q .dsms-few }
+
+  pub one-pair-at-most : length (replayed s ps .subframes) + replayed s ps .state .totals .silent ≤ 1 + s .totals .silent
+  unfolding replayed
+  one-pair-at-most = omega (arith, at-most ps (start s) (omega arith) .pairs-few)
 
 -- What stays in range: the satellite and the time, and how far the totals go.
 pub record Sound (s : State) (n : ℕ) : Type 0 where
@@ -208,6 +255,7 @@ pub record Sound (s : State) (n : ℕ) : Type 0 where
   pub unused-few : s .totals .unused ≤ n
   pub subframes-few : s .totals .subframes ≤ n
   pub dsms-few : s .totals .dsms ≤ n
+  pub silent-few : s .totals .silent ≤ n
 
 pub later-weeks : (t : Time) → t .week ≤ 4095 → later t .week ≤ 4095
 unfolding later
@@ -246,8 +294,11 @@ sound-fed s n page h =
       skipped-few = omega (arith, h .skipped-few);
       used-few = omega (arith, h .used-few, one-few u);
       unused-few = omega (arith, h .unused-few, one-few (not u));
-      subframes-few = omega (arith, h .subframes-few, subframe-few a);
-      dsms-few = omega (arith, h .dsms-few, dsm-few (passedOn a (feedPage (s .subframes) (fedPage s page) .state) (s .satellite) (s .dsms) .answer));
+      subframes-few = omega (arith, h .subframes-few, pair-few a);
+      dsms-few =
+          omega
+          (arith, h .dsms-few, dsm-few (passedOn (subframesIn a) (feedPage (s .subframes) (fedPage s page) .state) (s .satellite) (s .dsms) .answer));
+      silent-few = omega (arith, h .silent-few, pair-few a);
     }
 
 sound-skipped : (s : State) (n : ℕ) → Sound s n → Sound (skipped s .state) (n + 1)
@@ -264,6 +315,7 @@ sound-skipped s n h =
       unused-few = omega (arith, h .unused-few);
       subframes-few = omega (arith, h .subframes-few);
       dsms-few = omega (arith, h .dsms-few);
+      silent-few = omega (arith, h .silent-few);
     }
 
 pub sound-step : (s : State) (n : ℕ) (page : List ℕ) → Sound s n → Sound (pageStep s page .state) (n + 1)
@@ -326,6 +378,7 @@ module _ (s : State) (bytes : List ℕ) (k : ℕ) (x : Stepped) (h m d : List �
         unused-room = omega (arith, q .unused-few);
         subframes-room = omega (arith, q .subframes-few);
         dsms-room = omega (arith, q .dsms-few);
+        silent-room = omega (arith, q .silent-few);
       }
 
   module _ {page : List ℕ} (g : page ≡ take 30 (drop (30 * k) bytes)) where
@@ -360,4 +413,5 @@ sound-first r h m d i q =
       unused-few = omega (arith, q .unused-room);
       subframes-few = omega (arith, q .subframes-room);
       dsms-few = omega (arith, q .dsms-room);
+      silent-few = omega (arith, q .silent-room);
     }

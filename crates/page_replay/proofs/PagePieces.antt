@@ -3,7 +3,7 @@
 use Prim.Native.Nat.{ℕ, zero, suc, _+_, _-_, _*_, _/_, _≤_, _<_, min}
 use native.Mathlib.Nat.{add-zero, zero-add, suc-add}
 use native.Mathlib.Omega.{arith}
-use mathlib.Core.Path.{_≡_, refl, sym, ap, _∙_}
+use mathlib.Core.Path.{_≡_, refl, sym, ap, _∙_, subst}
 use mathlib.Core.List.{List, [], _∷_, _++_, append-nil, append-assoc}
 use mathlib.Core.Bool.{Bool, true, false, cond, not}
 use lib.ListN.{length, take, drop, replicate, length-append, length-drop, take-append-drop}
@@ -17,21 +17,65 @@ use Rattle.layouts.specs.InavPage.{isCounted, osnma}
 use Rattle.layouts.specs.Lists.{all}
 use Rattle.layouts.specs.Sizes.{krootBlocks}
 use Rattle.layouts.proofs.Answers.{none-fails}
-use Rattle.subframes.specs.Subframe.{feedChecks, usedAnswer, isUsed, small, State as Subframes, changed, used, offered, answerAt}
-use Rattle.subframes.specs.Subframe.{feed as feedPage, view as viewPage}
+use Rattle.subframes.specs.Subframe.{feedChecks, usedAnswer, isUsed, small, State as Subframes, Page, changed, used, offered, answerAt, isSilent}
+use Rattle.subframes.specs.Subframe.{zeros as areZeros, feed as feedPage, view as viewPage}
+use Rattle.subframes.specs.SubframePromises.{meaning-subframe}
+use Rattle.subframes.specs.declared.subframe.SubframeAnswer.{SubframeAnswer}
+use Rattle.subframes.specs.declared.subframe.SubframeAnswer.the-variants.{Refused, Nothing, Complete, Silent}
+use Rattle.subframes.proofs.SubframeUnique.{back-subframe}
+use Rattle.subframes.proofs.SubframeHistory.{fed-coded}
 use Rattle.dsms.specs.Dsm.{State as Dsms, begun, stored, counted as counted-blocks, finished, taken, feed as feedBlock}
-use Rattle.page_replay.specs.Replay.{Totals, State, new, Run, start, isTaken, one, passedOn, skipped, counted, fedPage, fed, pageStep, andThen, onward}
-use Rattle.page_replay.specs.Replay.{replayed, pagesOf, wholePages, consumed, most, areFew, replayChecks, Outcome, replay, fedHkroot, later}
+use Rattle.page_replay.specs.Replay.{Totals, Time, State, new, Run, start, isTaken, one, subframesIn, silentIn, passedOn, skipped, counted, fedPage}
+use Rattle.page_replay.specs.Replay.{fed, pageStep, andThen, onward, replayed, pagesOf, wholePages, consumed, most, areFew, replayChecks}
+use Rattle.page_replay.specs.Replay.{Outcome, replay, fedHkroot, later}
 use Rattle.page_replay.specs.Pieces.{OneOfEach, AddsUp, TotalsAddUp, PagesAddUp, followedBy, SplitAnywhere, Call, answeredTo, called, calledAll}
 use Rattle.page_replay.specs.Pieces.{reported, consumedBytes, plus, Ready, InPieces, CallsGoOn, NewIsReady, TotalsSayUsed, Example}
-use Rattle.page_replay.proofs.PageFold.{at-most-one, Sound, sound-step}
+use Rattle.page_replay.specs.Pieces.{comesOut, PairsCounted, SilentStaysOut}
+use Rattle.page_replay.proofs.PageFold.{at-most-one, one-pair-at-most, Sound, sound-step}
 use Rattle.page_replay.proofs.PageSteps.{start-admitted}
 use Rattle.page_replay.proofs.PageRefusals.{pages-many, all-few, few-each, call-admitted, other-budget, legal, replay-refused, replay-done}
 use Rattle.subframes.proofs.SubframeSound.{Sound as Collecting, sound-admitted, sound-fed}
 use Rattle.dsms.proofs.DsmSound.{Sound as Gathering, sound-fed as sound-block}
 
 pub one-of-each : OneOfEach
-one-of-each s pages h = let q = at-most-one s pages h in (q .subframe-one, q .dsm-one)
+one-of-each s pages h =
+    let q = at-most-one s pages h in record { subframe = q .subframe-one; dsm = q .dsm-one; pair = one-pair-at-most s pages h }
+
+-- An answer of the subframe collector is one pair, complete or silent.
+abbrev Paired : Answer → Type 0
+Paired a = length (subframesIn a) + length (silentIn a) ≡ comesOut a
+
+paired : (x : SubframeAnswer) → Paired (meaning-subframe x)
+paired (Refused n) = refl
+paired Nothing = refl
+paired (Complete w t) = refl
+paired (Silent w t) = refl
+
+pair-in : (s : Subframes) (p : Page) → Paired (feedPage s p .answer)
+pair-in s p = subst Paired (fed-coded s p) (paired (back-subframe (feedPage s p .answer)))
+
+pub pairs-counted : PairsCounted
+unfolding pageStep fed counted skipped
+pairs-counted s page =
+    record {
+      counted = λ e. rw e (omega (arith, pair-in (s .subframes) (fedPage s page)));
+      skipped = λ e. rw e;
+    }
+
+-- A silent answer.
+pub silent-stays-out : SilentStaysOut
+unfolding pageStep fed counted
+silent-stays-out s page week subframe e f =
+    rw e
+    (rw f
+    (record {
+      no-subframe = refl;
+      no-dsm = refl;
+      dsms-are = refl;
+      subframes-total = add-zero (s .totals .subframes);
+      dsms-total = add-zero (s .totals .dsms);
+      silent-total = refl;
+    }))
 
 -- The totals add up.
 one-or-not : (u : Bool) → one u + one (not u) ≡ 1
@@ -124,11 +168,10 @@ unfolding replayed
 split-anywhere s ps qs = onward-append ps qs (start s) ∙ onward-start qs (onward (start s) ps)
 
 -- A legal record stays legal.
-dsms-passed : (a : Answer) (s : Subframes) (n : ℕ) (d : Dsms) → Gathering d → Gathering (passedOn a s n d .state)
+dsms-passed : (l : List Time) (s : Subframes) (n : ℕ) (d : Dsms) → Gathering d → Gathering (passedOn l s n d .state)
 unfolding fedHkroot
-dsms-passed (refused m) s n d h = h
-dsms-passed nothing s n d h = h
-dsms-passed (gives l) s n d h = sound-block d _ _ h
+dsms-passed [] s n d h = h
+dsms-passed (t ∷ l) s n d h = sound-block d _ _ h
 
 pub record Good (s : State) (n : ℕ) : Type 0 where
   pub sound : Sound s n
@@ -148,7 +191,8 @@ unfolding pageStep fed counted skipped
 dsms-step s page h = go (isCounted page)
   where
     go : (b : Bool) → Gathering (cond b (fed s (fedPage s page)) (skipped s) .state .dsms)
-    go true = dsms-passed (feedPage (s .subframes) (fedPage s page) .answer) (feedPage (s .subframes) (fedPage s page) .state) (s .satellite) (s .dsms) h
+    go true =
+        let f = feedPage (s .subframes) (fedPage s page) in dsms-passed (subframesIn (f .answer)) (f .state) (s .satellite) (s .dsms) h
     go false = h
 
 pub good-onward : (ps : List (List ℕ)) (r : Run) (n : ℕ) → Good (r .state) n → Good (onward r ps .state) (n + length ps)
@@ -164,7 +208,7 @@ good-onward (p ∷ ps) r n g =
 few-totals : (s : State) (n : ℕ) → Sound s n → n ≤ most → true ≡ areFew (s .totals)
 few-totals s n f l =
     all-few (s .totals) (omega (arith, f .pages-few)) (omega (arith, f .skipped-few)) (omega (arith, f .used-few)) (omega (arith, f .unused-few))
-    (omega (arith, f .subframes-few)) (omega (arith, f .dsms-few))
+    (omega (arith, f .subframes-few)) (omega (arith, f .dsms-few)) (omega (arith, f .silent-few))
 
 -- Of such a record only a budget is refused.
 module _ (s : State) (n budget : ℕ) (g : Good s n) (l : n ≤ most) where
@@ -296,6 +340,7 @@ good-first s n r =
               unused-few = omega (arith, f .3);
               subframes-few = omega (arith, f .4);
               dsms-few = omega (arith, f .5);
+              silent-few = omega (arith, f .6);
             };
         collector = l .collector;
         dsms = record { d208 = l .d208; id-low = l .id-low };
@@ -310,7 +355,7 @@ good-ready s m n g l =
       room =
           sym
           (all-few (plus (s .totals) n) (omega (arith, f .pages-few)) (omega (arith, f .skipped-few)) (omega (arith, f .used-few))
-          (omega (arith, f .unused-few)) (omega (arith, f .subframes-few)) (omega (arith, f .dsms-few)));
+          (omega (arith, f .unused-few)) (omega (arith, f .subframes-few)) (omega (arith, f .dsms-few)) (omega (arith, f .silent-few)));
     }
 
 module _ (s : State) (n : ℕ) (c : Call) (r : Ready s n) where
@@ -365,6 +410,7 @@ new-is-ready satellite week time n hkroot mack memory e lh lm ld l =
             unused-few = omega arith;
             subframes-few = omega arith;
             dsms-few = omega arith;
+            silent-few = omega arith;
           };
       collector = record { h540 = lh; m2160 = lm; week-fits = omega arith; subframe-fits = omega arith; all-small = zeros-small };
       dsms = record { d208 = ld; id-low = omega arith };
@@ -393,5 +439,6 @@ totals-say-used s p e =
 pub example : Example
 unfolding
     replayed andThen pageStep isCounted skipped fed counted usedAnswer isUsed later osnma fedHkroot bit field refusal small changed used offered answerAt
-    feedPage viewPage copied begun stored counted-blocks all finished taken feedBlock krootBlocks bytesFrom
-example = (refl, refl, refl)
+    isSilent areZeros feedPage viewPage copied begun stored counted-blocks all finished taken feedBlock krootBlocks bytesFrom
+example =
+    record { silent-subframes = refl; silent-dsms = refl; silent-totals = refl; twin-subframes = refl; twin-dsms = refl; twin-totals = refl }

@@ -4,12 +4,13 @@ use Prim.Native.Nat.{ℕ, zero, suc, _/_, _^_, _≤_, _<_, min}
 use native.Mathlib.Omega.{arith}
 use mathlib.Core.Path.{_≡_, refl, sym, ap, _∙_}
 use mathlib.Core.List.{List, [], _∷_, _++_}
-use mathlib.Core.Bool.{Bool, true, false, not, _&&_}
+use mathlib.Core.Bool.{Bool, true, false, not}
 use lib.ListN.{length, drop}
 use lib.Dec.{leb, ltb}
 use borrow.Author.Tests.{leb-true, le-leb, lt-leb, le-ltb, lt-ltb, eq-eqb, ne-eqb, eqb-true, ltb-false, not-false}
 use Rattle.layouts.specs.Answer.{refused, gives, Check, _when_, refusal}
 use Rattle.layouts.specs.Gst.{svnGstChecks}
+use Rattle.runs.proofs.Basics.{and-true}
 use Rattle.layouts.proofs.Answers.{stopped, went-on, none-fails}
 use Rattle.page_replay.specs.Replay.{Totals, State, Run, under, replayChecks, areFew, most, Outcome, replay, replayed, pagesOf, consumed}
 use Rattle.subframes.specs.Subframe.{recordChecks}
@@ -64,17 +65,32 @@ module _ (t : Totals) where
                   lt-leb (t .dsms) most h,
                 )
 
-            pub all-few : t .dsms ≤ most → true ≡ areFew t
-            unfolding areFew
-            all-few h =
-                rw (
-                  le-leb (t .pages) most a,
-                  le-leb (t .skipped) most b,
-                  le-leb (t .used) most c,
-                  le-leb (t .unused) most d,
-                  le-leb (t .subframes) most e,
-                  le-leb (t .dsms) most h,
-                )
+            module _ (f : t .dsms ≤ most) where
+              pub many-silent : most < t .silent → false ≡ areFew t
+              unfolding areFew
+              many-silent h =
+                  rw (
+                    le-leb (t .pages) most a,
+                    le-leb (t .skipped) most b,
+                    le-leb (t .used) most c,
+                    le-leb (t .unused) most d,
+                    le-leb (t .subframes) most e,
+                    le-leb (t .dsms) most f,
+                    lt-leb (t .silent) most h,
+                  )
+
+              pub all-few : t .silent ≤ most → true ≡ areFew t
+              unfolding areFew
+              all-few h =
+                  rw (
+                    le-leb (t .pages) most a,
+                    le-leb (t .skipped) most b,
+                    le-leb (t .used) most c,
+                    le-leb (t .unused) most d,
+                    le-leb (t .subframes) most e,
+                    le-leb (t .dsms) most f,
+                    le-leb (t .silent) most h,
+                  )
 
 -- The refusals of a call: the subframe collector's bytes and record, then what is left.
 abbrev placeRows : State → ℕ → List Check
@@ -157,31 +173,23 @@ module _ (s : State) (budget : ℕ) where
 -- what is known of a call that is not refused
 pub few-each :
     (t : Totals) → areFew t ≡ true
-    → (t .pages ≤ most) × (t .skipped ≤ most) × (t .used ≤ most) × (t .unused ≤ most) × (t .subframes ≤ most) × (t .dsms ≤ most)
+    → (t .pages ≤ most) × (t .skipped ≤ most) × (t .used ≤ most) × (t .unused ≤ most) × (t .subframes ≤ most) × (t .dsms ≤ most) × (t .silent ≤ most)
 unfolding areFew
 few-each t e =
-    go (leb (t .pages) most) (leb (t .skipped) most) (leb (t .used) most) (leb (t .unused) most) (leb (t .subframes) most) (leb (t .dsms) most) refl
-    refl refl refl refl refl e
-  where
-    go :
-        (a b c d e f : Bool) → leb (t .pages) most ≡ a → leb (t .skipped) most ≡ b → leb (t .used) most ≡ c → leb (t .unused) most ≡ d
-        → leb (t .subframes) most ≡ e → leb (t .dsms) most ≡ f
-        → (a && b && c && d && e && f) ≡ true
-        → (t .pages ≤ most) × (t .skipped ≤ most) × (t .used ≤ most) × (t .unused ≤ most) × (t .subframes ≤ most) × (t .dsms ≤ most)
-    go true true true true true true pa pb pc pd pe pf h = (
-      leb-true (t .pages) most pa,
-      leb-true (t .skipped) most pb,
-      leb-true (t .used) most pc,
-      leb-true (t .unused) most pd,
-      leb-true (t .subframes) most pe,
-      leb-true (t .dsms) most pf,
+    let g = and-true _ (leb (t .silent) most) e in
+    let f = and-true _ (leb (t .dsms) most) (g .0) in
+    let d = and-true _ (leb (t .subframes) most) (f .0) in
+    let c = and-true _ (leb (t .unused) most) (d .0) in
+    let b = and-true _ (leb (t .used) most) (c .0) in
+    let a = and-true (leb (t .pages) most) (leb (t .skipped) most) (b .0) in (
+      leb-true (t .pages) most (a .0),
+      leb-true (t .skipped) most (a .1),
+      leb-true (t .used) most (b .1),
+      leb-true (t .unused) most (c .1),
+      leb-true (t .subframes) most (d .1),
+      leb-true (t .dsms) most (f .1),
+      leb-true (t .silent) most (g .1),
     )
-    go true true true true true false pa pb pc pd pe pf h = let z : _≡_ {A = ℕ} 0 1 = cc in absurd (omega arith)
-    go true true true true false f pa pb pc pd pe pf h = let z : _≡_ {A = ℕ} 0 1 = cc in absurd (omega arith)
-    go true true true false e f pa pb pc pd pe pf h = let z : _≡_ {A = ℕ} 0 1 = cc in absurd (omega arith)
-    go true true false d e f pa pb pc pd pe pf h = let z : _≡_ {A = ℕ} 0 1 = cc in absurd (omega arith)
-    go true false c d e f pa pb pc pd pe pf h = let z : _≡_ {A = ℕ} 0 1 = cc in absurd (omega arith)
-    go false b c d e f pa pb pc pd pe pf h = let z : _≡_ {A = ℕ} 0 1 = cc in absurd (omega arith)
 
 -- each check of a call that is not refused passes
 pub record Legal (s : State) (budget : ℕ) : Type 0 where
@@ -216,7 +224,7 @@ legal-range r h m d budget l = record { some = l .some; few = l .few; in-weeks =
 pub legal-room : (r : PageReplay) (h m d : List ℕ) (budget : ℕ) → Legal (state r h m d) budget → Room r (2 ^ 62)
 legal-room r h m d budget l =
     let f = few-each (state r h m d .totals) (l .totals-few) in
-    record { pages-room = f .0; skipped-room = f .1; used-room = f .2; unused-room = f .3; subframes-room = f .4; dsms-room = f .5 }
+    record { pages-room = f .0; skipped-room = f .1; used-room = f .2; unused-room = f .3; subframes-room = f .4; dsms-room = f .5; silent-room = f .6 }
 
 pub pages-many : (n : ℕ) (bytes : List ℕ) → length (pagesOf n bytes) ≡ n
 unfolding pagesOf

@@ -18,7 +18,7 @@ use Rattle.layouts.specs.declared.inav_page.PageKind.the-variants.{Counts, Skip
 use Rattle.layouts.specs.declared.dsm_header.DsmType.{DsmType}
 use Rattle.layouts.specs.declared.dsm_header.DsmType.the-variants.{Kroot, Pkr}
 use Rattle.layouts.proofs.Timed.{satellite-fits, all-fit}
-use Rattle.page_replay.specs.Replay.{Time, later, State, new, Begun, begun, Dsm, Run, subframesIn, dsmsIn, isTaken, one}
+use Rattle.page_replay.specs.Replay.{Time, later, State, new, Begun, begun, Dsm, Run, subframesIn, silentIn, dsmsIn, isTaken, one}
 use Rattle.page_replay.specs.Replay.{hkrootOf, fedHkroot, passedOn, skipped, counted, fedPage, fed, pageStep, andThen}
 use Rattle.subframes.specs.Subframe.{askChecks, usedAnswer, Page, Fed as SubframesFed, feed as feedPage}
 use Rattle.dsms.specs.Dsm.{Fed as DsmsFed}
@@ -33,6 +33,7 @@ use Rattle.subframes.specs.declared.subframe.WordAnswer.the-variants.{Used}
 use Rattle.subframes.specs.declared.subframe.HkrootMessage.{HkrootMessage}
 use Rattle.subframes.specs.declared.subframe.SubframeAnswer.{SubframeAnswer}
 use Rattle.subframes.specs.declared.subframe.SubframeAnswer.the-variants.{Refused as SubframeRefused, Nothing as NoSubframe, Complete as SubframeIs}
+use Rattle.subframes.specs.declared.subframe.SubframeAnswer.the-variants.{Silent as SilentIs}
 use Rattle.dsms.specs.declared.dsm.CollectDsm.{CollectDsm}
 use Rattle.page_replay.specs.declared.replay.PageReplay.{PageReplay}
 use Rattle.dsms.specs.declared.dsm.DsmAnswer.{DsmAnswer}
@@ -161,6 +162,7 @@ pub fresh-is : (s w t : ℕ) (a : CollectSubframe) (b : CollectDsm) → NewSubfr
       unused = 0;
       «subframes_done» = 0;
       «dsms_done» = 0;
+      silent = 0;
     })
     [] [] []
     ≡ new s w t [] [] []
@@ -196,16 +198,24 @@ with-memory s w t r h m d e = ap lent e
 module _ {x : SubframeAnswer} (c : CollectSubframe) (h k : List ℕ) (n : ℕ) (d : CollectDsm) (m : List ℕ) where
   pub passed-refused :
       {q : ℕ} → x ≡ SubframeRefused q
-      → _≡_ {A = DsmsFed} (record { state = dsmState d m; answer = nothing }) (passedOn (meaning-subframe x) (subframeState c h k) n (dsmState d m))
+      → _≡_ {A = DsmsFed} (record { state = dsmState d m; answer = nothing })
+      (passedOn (subframesIn (meaning-subframe x)) (subframeState c h k) n (dsmState d m))
   passed-refused e = rw e
 
   pub passed-nothing :
       x ≡ NoSubframe
-      → _≡_ {A = DsmsFed} (record { state = dsmState d m; answer = nothing }) (passedOn (meaning-subframe x) (subframeState c h k) n (dsmState d m))
+      → _≡_ {A = DsmsFed} (record { state = dsmState d m; answer = nothing })
+      (passedOn (subframesIn (meaning-subframe x)) (subframeState c h k) n (dsmState d m))
   passed-nothing e = rw e
 
+  pub passed-silent :
+      {w t : ℕ} → x ≡ SilentIs w t
+      → _≡_ {A = DsmsFed} (record { state = dsmState d m; answer = nothing })
+      (passedOn (subframesIn (meaning-subframe x)) (subframeState c h k) n (dsmState d m))
+  passed-silent e = rw e
+
   pub passed-hkroot : {w t : ℕ} {f : DsmsFed} → x ≡ SubframeIs w t → f ≡ fedHkroot (dsmState d m) (hkrootOf (subframeState c h k) n)
-      → f ≡ passedOn (meaning-subframe x) (subframeState c h k) n (dsmState d m)
+      → f ≡ passedOn (subframesIn (meaning-subframe x)) (subframeState c h k) n (dsmState d m)
   passed-hkroot e g = rw e g
 
 pub hkroot-fed : (c : CollectSubframe) (h k : List ℕ) (n : ℕ) (d : CollectDsm) (m : List ℕ) (y : HkrootMessage) {f : DsmsFed} → HkrootMessageRead c h k n y
@@ -239,6 +249,7 @@ pub skipped-is : (s : State) {t : Time} → t ≡ later (s .next)
                   unused = s .totals .unused;
                   subframes = s .totals .subframes;
                   dsms = s .totals .dsms;
+                  silent = s .totals .silent;
                 };
           };
       subframes = [];
@@ -247,8 +258,9 @@ pub skipped-is : (s : State) {t : Time} → t ≡ later (s .next)
 unfolding skipped
 skipped-is s e = rw e
 
-pub counted-is : (s : State) (u : Bool) (f : SubframesFed) (d : DsmsFed) {t : Time} {xs : List Time} {ys : List Dsm} {a b p q : ℕ}
+pub counted-is : (s : State) (u : Bool) (f : SubframesFed) (d : DsmsFed) {t : Time} {xs : List Time} {ys : List Dsm} {a b p q z : ℕ}
     → t ≡ later (s .next) → xs ≡ subframesIn (f .answer) → ys ≡ dsmsIn (d .answer) → a ≡ one u → b ≡ one (not u) → p ≡ length xs → q ≡ length ys
+    → z ≡ length (silentIn (f .answer))
     → _≡_ {A = Run} (record {
       state =
           record {
@@ -264,13 +276,14 @@ pub counted-is : (s : State) (u : Bool) (f : SubframesFed) (d : DsmsFed) {t : Ti
                   unused = s .totals .unused + b;
                   subframes = s .totals .subframes + p;
                   dsms = s .totals .dsms + q;
+                  silent = s .totals .silent + z;
                 };
           };
       subframes = xs;
       dsms = ys;
     }) (counted s u f d)
 unfolding counted
-counted-is s u f d et ex ey ea eb ep eq = rw (et, ep, eq, ex, ey, ea, eb)
+counted-is s u f d et ex ey ea eb ep eq ez = rw (et, ep, eq, ex, ey, ea, eb, ez)
 
 module _ (s : State) (page : List ℕ) where
   abbrev read : List ℕ → Page
@@ -280,13 +293,13 @@ module _ (s : State) (page : List ℕ) where
   said b = isTaken (usedAnswer (s .subframes) (read b))
 
   pub fed-is : {b : List ℕ} {u : Bool} {f : SubframesFed} {d : DsmsFed} {r : Run} → b ≡ osnma page → u ≡ said b → f ≡ feedPage (s .subframes) (read b)
-      → d ≡ passedOn (f .answer) (f .state) (s .satellite) (s .dsms) → r ≡ counted s u f d → r ≡ fed s (fedPage s page)
+      → d ≡ passedOn (subframesIn (f .answer)) (f .state) (s .satellite) (s .dsms) → r ≡ counted s u f d → r ≡ fed s (fedPage s page)
   unfolding fed
   fed-is {b} {u} {f} {d} eb eu ef ed er =
       er
       ∙ ap (λ (x : Bool). counted s x f d) eu
       ∙ ap (λ (x : DsmsFed). counted s (said b) f x) ed
-      ∙ ap (λ (x : SubframesFed). counted s (said b) x (passedOn (x .answer) (x .state) (s .satellite) (s .dsms))) ef
+      ∙ ap (λ (x : SubframesFed). counted s (said b) x (passedOn (subframesIn (x .answer)) (x .state) (s .satellite) (s .dsms))) ef
       ∙ ap (λ (x : List ℕ). fed s (read x)) eb
 
 -- One page more.

@@ -1,14 +1,15 @@
 -- The pages and the blocks that a replay feeds its collectors, one by one; they refuse none.
 -- Assumes nothing.
-use Prim.Native.Nat.{ℕ, _-_, _*_, _≤_}
+use Prim.Native.Nat.{ℕ, _+_, _-_, _*_, _≤_}
+use native.Mathlib.Nat.{add-zero}
 use native.Mathlib.Omega.{arith}
 use mathlib.Core.Path.{_≡_, refl, sym, ap, _∙_, subst, subst⁻¹}
 use mathlib.Core.List.{List, [], _∷_, _++_, append-nil, append-assoc}
 use mathlib.Core.Bool.{Bool, true, false, cond}
-use lib.ListN.{length, getD, take, drop, replicate, length-take, length-drop}
+use lib.ListN.{length, getD, take, drop, replicate, length-append, length-take, length-drop}
 use lib.Dec.{eqb}
 use borrow.Author.Tests.{eq-eqb}
-use Rattle.layouts.specs.Answer.{Answer, refused, nothing, gives, refusal, copied, shownOr}
+use Rattle.layouts.specs.Answer.{refused, nothing, gives, refusal, copied, shownOr}
 use Rattle.layouts.specs.InavPage.{isCounted, osnma}
 use Rattle.layouts.proofs.Tags.{bytes-long}
 use Rattle.runs.specs.Runs.{afterAll}
@@ -18,11 +19,11 @@ use Rattle.subframes.proofs.SubframeSound.{Sound as Collecting, sound-fed}
 use Rattle.subframes.specs.SubframeRecovery.{isAdmitted as isAdmittedPage, after as afterPages}
 use Rattle.dsms.specs.Dsm.{State as Dsms}
 use Rattle.dsms.specs.DsmRecovery.{Call as Block, isAdmitted as isAdmittedBlock, fedTo, after as afterBlocks}
-use Rattle.page_replay.specs.Replay.{Time, later, Dsm, State, Run, hkrootOf, subframesIn, dsmsIn, passedOn, fedHkroot, skipped, counted, fedPage}
-use Rattle.page_replay.specs.Replay.{fed, pageStep, andThen, replayed}
+use Rattle.page_replay.specs.Replay.{Time, later, Dsm, State, Run, start, hkrootOf, subframesIn, silentIn, dsmsIn, passedOn, fedHkroot, skipped, counted}
+use Rattle.page_replay.specs.Replay.{fedPage, fed, pageStep, andThen, replayed}
 use Rattle.page_replay.specs.Pieces.{followedBy}
 use Rattle.page_replay.specs.ReplayPromises.{state}
-use Rattle.page_replay.specs.ReplayHistory.{fedAs, fedFrom, blocksIn, blocksFrom, subframesFrom, dsmsFrom, blockIn}
+use Rattle.page_replay.specs.ReplayHistory.{fedAs, fedFrom, blocksIn, blocksFrom, subframesFrom, silentFrom, dsmsFrom, blockIn}
 use Rattle.page_replay.proofs.PageFold.{later-weeks, later-week}
 use Rattle.page_replay.proofs.PagePieces.{split-anywhere}
 use Rattle.page_replay.proofs.PageSteps.{start-admitted}
@@ -37,8 +38,9 @@ unfolding blocksFrom
 blocks-append s [] qs = refl
 blocks-append s (p ∷ ps) qs =
     let f = feedPage s p in
-    ap (λ (l : List Block). blocksIn (f .answer) (f .state) (p .satellite) ++ l) (blocks-append (f .state) ps qs)
-    ∙ sym (append-assoc (blocksIn (f .answer) (f .state) (p .satellite)) (blocksFrom (f .state) ps) (blocksFrom (afterPages (f .state) ps) qs))
+    let first = blocksIn (subframesIn (f .answer)) (f .state) (p .satellite) in
+    ap (λ (l : List Block). first ++ l) (blocks-append (f .state) ps qs)
+    ∙ sym (append-assoc first (blocksFrom (f .state) ps) (blocksFrom (afterPages (f .state) ps) qs))
 
 subframes-append : (s : Subframes) (ps qs : List Page) → subframesFrom s (ps ++ qs) ≡ subframesFrom s ps ++ subframesFrom (afterPages s ps) qs
 unfolding subframesFrom
@@ -47,6 +49,14 @@ subframes-append s (p ∷ ps) qs =
     let f = feedPage s p in
     ap (λ (l : List Time). subframesIn (f .answer) ++ l) (subframes-append (f .state) ps qs)
     ∙ sym (append-assoc (subframesIn (f .answer)) (subframesFrom (f .state) ps) (subframesFrom (afterPages (f .state) ps) qs))
+
+silent-append : (s : Subframes) (ps qs : List Page) → silentFrom s (ps ++ qs) ≡ silentFrom s ps ++ silentFrom (afterPages s ps) qs
+unfolding silentFrom
+silent-append s [] qs = refl
+silent-append s (p ∷ ps) qs =
+    let f = feedPage s p in
+    ap (λ (l : List Time). silentIn (f .answer) ++ l) (silent-append (f .state) ps qs)
+    ∙ sym (append-assoc (silentIn (f .answer)) (silentFrom (f .state) ps) (silentFrom (afterPages (f .state) ps) qs))
 
 dsms-append : (d : Dsms) (cs es : List Block) → dsmsFrom d (cs ++ es) ≡ dsmsFrom d cs ++ dsmsFrom (afterBlocks d cs) es
 unfolding dsmsFrom
@@ -61,35 +71,42 @@ pub record Feeds (s : State) (ps : List Page) (r : Run) : Type 0 where
   pub subframes-is : r .state .subframes ≡ afterPages (s .subframes) ps
   pub dsms-is : r .state .dsms ≡ afterBlocks (s .dsms) (blocksFrom (s .subframes) ps)
   pub subframes-done : r .subframes ≡ subframesFrom (s .subframes) ps
+  pub silent-done : r .state .totals .silent ≡ s .totals .silent + length (silentFrom (s .subframes) ps)
   pub dsms-done : r .dsms ≡ dsmsFrom (s .dsms) (blocksFrom (s .subframes) ps)
 
-passed-state : (a : Answer) (s : Subframes) (n : ℕ) (d : Dsms) → passedOn a s n d .state ≡ afterBlocks d (blocksIn a s n)
+passed-state : (l : List Time) (s : Subframes) (n : ℕ) (d : Dsms) → passedOn l s n d .state ≡ afterBlocks d (blocksIn l s n)
 unfolding fedHkroot
-passed-state (refused q) s n d = refl
-passed-state nothing s n d = refl
-passed-state (gives l) s n d = refl
+passed-state [] s n d = refl
+passed-state (t ∷ l) s n d = refl
 
-passed-done : (a : Answer) (s : Subframes) (n : ℕ) (d : Dsms) → dsmsIn (passedOn a s n d .answer) ≡ dsmsFrom d (blocksIn a s n)
+passed-done : (l : List Time) (s : Subframes) (n : ℕ) (d : Dsms) → dsmsIn (passedOn l s n d .answer) ≡ dsmsFrom d (blocksIn l s n)
 unfolding fedHkroot dsmsFrom
-passed-done (refused q) s n d = refl
-passed-done nothing s n d = refl
-passed-done (gives l) s n d = sym (append-nil _)
+passed-done [] s n d = refl
+passed-done (t ∷ l) s n d = sym (append-nil _)
 
 fed-feeds : (s : State) (page : List ℕ) → Feeds s (fedPage s page ∷ []) (fed s (fedPage s page))
-unfolding fed counted blocksFrom subframesFrom
+unfolding fed counted blocksFrom subframesFrom silentFrom
 fed-feeds s page =
     let f = feedPage (s .subframes) (fedPage s page) in
-    let one : blocksFrom (s .subframes) (fedPage s page ∷ []) ≡ blocksIn (f .answer) (f .state) (s .satellite) = append-nil _ in
+    let done = subframesIn (f .answer) in
+    let one : blocksFrom (s .subframes) (fedPage s page ∷ []) ≡ blocksIn done (f .state) (s .satellite) = append-nil _ in
     record {
       subframes-is = refl;
-      dsms-is = passed-state (f .answer) (f .state) (s .satellite) (s .dsms) ∙ ap (afterBlocks (s .dsms)) (sym one);
-      subframes-done = sym (append-nil (subframesIn (f .answer)));
-      dsms-done = passed-done (f .answer) (f .state) (s .satellite) (s .dsms) ∙ ap (dsmsFrom (s .dsms)) (sym one);
+      dsms-is = passed-state done (f .state) (s .satellite) (s .dsms) ∙ ap (afterBlocks (s .dsms)) (sym one);
+      subframes-done = sym (append-nil done);
+      silent-done = ap (λ (l : List Time). s .totals .silent + length l) (sym (append-nil (silentIn (f .answer))));
+      dsms-done = passed-done done (f .state) (s .satellite) (s .dsms) ∙ ap (dsmsFrom (s .dsms)) (sym one);
     }
 
+none-fed : (s : State) → Feeds s [] (start s)
+unfolding blocksFrom subframesFrom silentFrom dsmsFrom
+none-fed s =
+    record { subframes-is = refl; dsms-is = refl; subframes-done = refl; silent-done = sym (add-zero (s .totals .silent)); dsms-done = refl }
+
 skipped-feeds : (s : State) → Feeds s [] (skipped s)
-unfolding skipped blocksFrom subframesFrom dsmsFrom
-skipped-feeds s = record { subframes-is = refl; dsms-is = refl; subframes-done = refl; dsms-done = refl }
+unfolding skipped blocksFrom subframesFrom silentFrom dsmsFrom
+skipped-feeds s =
+    record { subframes-is = refl; dsms-is = refl; subframes-done = refl; silent-done = sym (add-zero (s .totals .silent)); dsms-done = refl }
 
 step-feeds : (s : State) (page : List ℕ) → Feeds s (fedAs (s .satellite) (s .next) page) (pageStep s page)
 unfolding pageStep
@@ -135,6 +152,10 @@ module _ (s : State) (ps qs : List Page) (r x : Run) (f : Feeds s ps r) (g : Fee
             ap (λ (l : List Time). l ++ x .subframes) (f .subframes-done)
             ∙ ap (λ (l : List Time). subframesFrom (s .subframes) ps ++ l) (g .subframes-done ∙ ap (λ (t : Subframes). subframesFrom t qs) (f .subframes-is))
             ∙ sym (subframes-append (s .subframes) ps qs);
+        silent-done =
+            let more = ap length (silent-append (s .subframes) ps qs) ∙ length-append (silentFrom (s .subframes) ps) _ in
+            let then = ap (λ (t : Subframes). length (silentFrom t qs)) (f .subframes-is) in
+            omega (arith, f .silent-done, g .silent-done, more, then);
         dsms-done =
             ap (λ (l : List Dsm). l ++ x .dsms) (f .dsms-done)
             ∙ ap (λ (l : List Dsm). dsmsFrom (s .dsms) bs ++ l)
@@ -148,8 +169,8 @@ unfolding replayed andThen
 one-more s page pages = split-anywhere s (page ∷ []) pages
 
 pub replay-feeds : (pages : List (List ℕ)) (s : State) → Feeds s (fedFrom (s .satellite) (s .next) pages) (replayed s pages)
-unfolding fedFrom replayed blocksFrom subframesFrom dsmsFrom
-replay-feeds [] s = record { subframes-is = refl; dsms-is = refl; subframes-done = refl; dsms-done = refl }
+unfolding fedFrom replayed
+replay-feeds [] s = none-fed s
 replay-feeds (page ∷ pages) s =
     let x : State = pageStep s page .state in
     let place = step-place s page in
@@ -216,15 +237,14 @@ blocks-fit [] s k f = tt
 blocks-fit (p ∷ ps) s k f =
     let x = feedPage s p in
     let on : Collecting (x .state) = sound-fed s p k in
-    each-append (λ (d : Block). isAdmittedBlock d ≡ true) (blocksIn (x .answer) (x .state) (p .satellite)) (blocksFrom (x .state) ps)
-    (go (x .answer) (block-long (hkrootOf (x .state) (p .satellite)) (hkroot-long (x .state) (p .satellite) on (f .0 .some) (f .0 .few))))
+    each-append (λ (d : Block). isAdmittedBlock d ≡ true) (blocksIn (subframesIn (x .answer)) (x .state) (p .satellite)) (blocksFrom (x .state) ps)
+    (go (subframesIn (x .answer)) (block-long (hkrootOf (x .state) (p .satellite)) (hkroot-long (x .state) (p .satellite) on (f .0 .some) (f .0 .few))))
     (blocks-fit ps (x .state) on (f .1))
   where
     t : Subframes
     t = feedPage s p .state
 
-    go : (a : Answer) → isAdmittedBlock (blockIn (hkrootOf t (p .satellite))) ≡ true
-        → Each (λ (d : Block). isAdmittedBlock d ≡ true) (blocksIn a t (p .satellite))
-    go (refused q) h = tt
-    go nothing h = tt
-    go (gives l) h = (h, tt)
+    go : (l : List Time) → isAdmittedBlock (blockIn (hkrootOf t (p .satellite))) ≡ true
+        → Each (λ (d : Block). isAdmittedBlock d ≡ true) (blocksIn l t (p .satellite))
+    go [] h = tt
+    go (u ∷ l) h = (h, tt)

@@ -3,7 +3,7 @@
 use Prim.Native.Nat.{ℕ, suc, _≤_, min}
 use native.Mathlib.Omega.{arith}
 use mathlib.Core.Path.{_≡_, refl, sym, ap, _∙_}
-use mathlib.Core.List.{List, [], _∷_}
+use mathlib.Core.List.{List, [], _∷_, _++_}
 use mathlib.Core.Bool.{Bool, true, false, cond}
 use lib.ListN.{length, replicate}
 use lib.Dec.{eqb}
@@ -14,11 +14,12 @@ use Rattle.layouts.specs.Gst.{svnGstChecks}
 use Rattle.layouts.specs.InavPage.{isCounted, osnma}
 use Rattle.layouts.specs.Lists.{all}
 use Rattle.layouts.specs.Sizes.{krootBlocks}
-use Rattle.subframes.specs.Subframe.{usedAnswer, isUsed, small, changed, used, offered, answerAt, feed as feedPage, view as viewPage}
+use Rattle.subframes.specs.Subframe.{usedAnswer, isUsed, small, changed, used, offered, answerAt, isSilent, zeros as areZeros}
+use Rattle.subframes.specs.Subframe.{feed as feedPage, view as viewPage}
 use Rattle.dsms.specs.Dsm.{begun as begun-blocks, stored, counted as counted-blocks, finished, taken, feed as feedBlock}
 use Rattle.page_replay.specs.Replay.{Time, Dsm, State, new, Begun, begun, Run, skipped, counted, fed, pageStep, andThen, replayed, pagesOf, wholePages}
 use Rattle.page_replay.specs.Replay.{consumed, areFew, replayChecks, Outcome, replay, fedHkroot, later}
-use Rattle.page_replay.specs.Pieces.{goodPage}
+use Rattle.page_replay.specs.Pieces.{goodPage, lastPage}
 use Rattle.page_replay.specs.ReplayPromises.{state, outcome, meaning-begun, meaning-subframes, meaning-dsms, BeginReplay, ReplayPages}
 use Rattle.page_replay.specs.ReplayHistory.{History, AnyCalls, zeros, goodPages, SmallestCase}
 use Rattle.page_replay.specs.declared.replay.PageReplay.{PageReplay}
@@ -104,22 +105,31 @@ seven = replayed (state (zeros .replay) (zeros .hkroot) (zeros .mack) (zeros .me
 
 refused-16 : (bytes : List ℕ) → replay seven bytes 16 ≡ record { state = seven; answer = refused 7; subframes = []; dsms = [] }
 unfolding replay replayed andThen pageStep isCounted skipped fed counted usedAnswer isUsed later osnma fedHkroot bit field refusal small changed used
-    offered answerAt feedPage viewPage copied begun-blocks stored counted-blocks all finished taken feedBlock krootBlocks bytesFrom areFew
+    offered answerAt isSilent areZeros feedPage viewPage copied begun-blocks stored counted-blocks all finished taken feedBlock krootBlocks bytesFrom areFew
 refused-16 bytes = refl
 
-record Gives (n : ℕ) (subframes : List Time) (o : Outcome) : Type 0 where
+record Gives (n : ℕ) (subframes : List Time) (silent : ℕ) (o : Outcome) : Type 0 where
   answer-is : o .answer ≡ gives (n ∷ [])
   subframes-is : o .subframes ≡ subframes
+  silent-is : o .state .totals .silent ≡ silent
 
-eight-complete : Gives 8 (record { week = 1200; time = 60 } ∷ []) (replay seven (goodPages 8) 15)
+eight-silent : Gives 8 [] 1 (replay seven (goodPages 8) 15)
 unfolding replay replayed andThen pageStep isCounted skipped fed counted usedAnswer isUsed later osnma fedHkroot bit field refusal small changed used
-    offered answerAt feedPage viewPage copied begun-blocks stored counted-blocks all finished taken feedBlock krootBlocks bytesFrom areFew pagesOf
-eight-complete = record { answer-is = refl; subframes-is = refl }
+    offered answerAt isSilent areZeros feedPage viewPage copied begun-blocks stored counted-blocks all finished taken feedBlock krootBlocks bytesFrom
+    areFew pagesOf
+eight-silent = record { answer-is = refl; subframes-is = refl; silent-is = refl }
 
-seven-do-not : Gives 7 [] (replay seven (goodPages 7) 15)
+eight-complete : Gives 8 (record { week = 1200; time = 60 } ∷ []) 0 (replay seven (goodPages 7 ++ lastPage) 15)
 unfolding replay replayed andThen pageStep isCounted skipped fed counted usedAnswer isUsed later osnma fedHkroot bit field refusal small changed used
-    offered answerAt feedPage viewPage copied begun-blocks stored counted-blocks all finished taken feedBlock krootBlocks bytesFrom areFew pagesOf
-seven-do-not = record { answer-is = refl; subframes-is = refl }
+    offered answerAt isSilent areZeros feedPage viewPage copied begun-blocks stored counted-blocks all finished taken feedBlock krootBlocks bytesFrom
+    areFew pagesOf
+eight-complete = record { answer-is = refl; subframes-is = refl; silent-is = refl }
+
+seven-do-not : Gives 7 [] 0 (replay seven (goodPages 7) 15)
+unfolding replay replayed andThen pageStep isCounted skipped fed counted usedAnswer isUsed later osnma fedHkroot bit field refusal small changed used
+    offered answerAt isSilent areZeros feedPage viewPage copied begun-blocks stored counted-blocks all finished taken feedBlock krootBlocks bytesFrom
+    areFew pagesOf
+seven-do-not = record { answer-is = refl; subframes-is = refl; silent-is = refl }
 
 module _ {c : PageReplay} {h m d : List ℕ} (k : History zeros c h m d (replicate 7 goodPage) [] []) where
   at-seven : state c h m d ≡ seven
@@ -148,12 +158,20 @@ smallest-case =
           let x = after-seven k bytes 16 r h′ m′ d′ e ∙ refused-16 bytes in
           let y : outcome q h″ m″ d″ ≡ replay seven (goodPages 8) 15 = f ∙ ap (λ (o : Outcome). replay (o .state) (goodPages 8) 15) x in (
             answer-back r h′ m′ d′ x,
-            answer-back q h″ m″ d″ y ∙ ap back-answer (eight-complete .answer-is),
-            subframe-back q h″ m″ d″ y ∙ ap back-subframes (eight-complete .subframes-is),
+            answer-back q h″ m″ d″ y ∙ ap back-answer (eight-silent .answer-is),
+            subframe-back q h″ m″ d″ y ∙ ap back-subframes (eight-silent .subframes-is),
+            ap (λ (o : Outcome). o .state .totals .silent) y ∙ eight-silent .silent-is,
+          );
+      completes = λ k q h′ m′ d′ e.
+          let y = after-seven k (goodPages 7 ++ lastPage) 15 q h′ m′ d′ e in (
+            answer-back q h′ m′ d′ y ∙ ap back-answer (eight-complete .answer-is),
+            subframe-back q h′ m′ d′ y ∙ ap back-subframes (eight-complete .subframes-is),
+            ap (λ (o : Outcome). o .state .totals .silent) y ∙ eight-complete .silent-is,
           );
       stays-out = λ k q h′ m′ d′ e.
           let y = after-seven k (goodPages 7) 15 q h′ m′ d′ e in (
             answer-back q h′ m′ d′ y ∙ ap back-answer (seven-do-not .answer-is),
             subframe-back q h′ m′ d′ y ∙ ap back-subframes (seven-do-not .subframes-is),
+            ap (λ (o : Outcome). o .state .totals .silent) y ∙ seven-do-not .silent-is,
           );
     }

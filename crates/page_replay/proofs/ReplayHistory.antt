@@ -34,7 +34,7 @@ use Rattle.page_replay.specs.Replay.{most, areFew}
 use Rattle.page_replay.specs.Replay.{replayChecks, Outcome, replay}
 use Rattle.page_replay.specs.Pieces.{followedBy, Call, answeredTo, reported}
 use Rattle.page_replay.specs.ReplayPromises.{state, outcome, meaning-replay, meaning-subframes, meaning-dsms, ReplayPages}
-use Rattle.page_replay.specs.ReplayHistory.{Beginning, Misfit, History, begun, called, misfit, fedFrom, blocksFrom, subframesFrom}
+use Rattle.page_replay.specs.ReplayHistory.{Beginning, Misfit, History, begun, called, misfit, fedFrom, blocksFrom, subframesFrom, silentFrom}
 use Rattle.page_replay.specs.ReplayHistory.{dsmsFrom, firstSubframes, firstDsms, pagesFed, blocksFed, ReplayRecovers, refusedStart, CallsAnswered}
 use Rattle.page_replay.specs.ReplayHistory.{Unchanged, RefusedChangesNothing, MisfitIsRefused}
 use Rattle.page_replay.specs.declared.replay.PageReplay.{PageReplay}
@@ -208,6 +208,7 @@ good-new {b} n z =
             unused-few = omega (arith, ap (λ (t : Totals). t .unused) none);
             subframes-few = omega (arith, ap (λ (t : Totals). t .subframes) none);
             dsms-few = omega (arith, ap (λ (t : Totals). t .dsms) none);
+            silent-few = omega (arith, ap (λ (t : Totals). t .silent) none);
           };
       collector = subst⁻¹ Collecting (n .new-subframes) (sound-new b n);
       dsms = subst⁻¹ Gathering (n .new-dsms) (record { d208 = n .d208; id-low = omega arith });
@@ -310,6 +311,10 @@ replay-recovers b c h m d pages subframes dsms k =
       dsms-answered =
           ap (λ (r : Run). r .dsms) e ∙ f .dsms-done ∙ ap (dsmsFrom (first b .dsms)) blocks
           ∙ ap (λ (s : Dsms). dsmsFrom s (blocksFed b pages)) (n .new-dsms);
+      silent-counted =
+          let none : first b .totals .silent ≡ 0 = ap (λ (t : Totals). t .silent) (n .no-totals) in
+          let new-one = ap (λ (s : Subframes). length (silentFrom s (pagesFed b pages))) (n .new-subframes) in
+          omega (arith, ap (λ (r : Run). r .state .totals .silent) e, f .silent-done, none, new-one);
       page-admitted = λ ps qs p g. fits-admitted p (each-at Fits ps qs p (subst (λ (l : List Page). Each Fits l) g (pages-fit k)));
       block-admitted = λ cs es x g.
           each-at (λ (y : Block). isAdmittedBlock y ≡ true) cs es x

@@ -70,6 +70,7 @@ back-state s =
       unused = s .totals .unused;
       «subframes_done» = s .totals .subframes;
       «dsms_done» = s .totals .dsms;
+      silent = s .totals .silent;
     }
 
 abbrev back-new : Begun → NewReplay

@@ -2,18 +2,54 @@
 -- Assumes nothing.
 use Prim.Native.Nat.{ℕ, _+_, _-_, _*_, _≤_, _<_, min}
 use mathlib.Core.List.{List, [], _∷_, _++_}
-use mathlib.Core.Bool.{true}
+use mathlib.Core.Bool.{true, false}
 use mathlib.Core.Path.{_≡_}
 use lib.ListN.{length, take, replicate}
 use Rattle.layouts.specs.Answer.{Answer, refused, nothing, gives, refusal}
 use Rattle.layouts.specs.Gst.{svnGstChecks}
 use Rattle.runs.specs.Runs.{afterAll}
-use Rattle.subframes.specs.Subframe.{State as Subframes, Page, feedChecks, isUsed, usedAnswer}
-use Rattle.page_replay.specs.Replay.{State, Totals, new, Run, start, isTaken, replayed, pagesOf, wholePages, most, areFew, replayChecks, Outcome, replay}
+use Rattle.layouts.specs.InavPage.{isCounted}
+use Rattle.subframes.specs.Subframe.{State as Subframes, Page, feedChecks, isUsed, usedAnswer, silent, feed as feedPage}
+use Rattle.page_replay.specs.Replay.{State, Totals, new, Run, start, isTaken, fedPage, pageStep, replayed, pagesOf, wholePages, most, areFew}
+use Rattle.page_replay.specs.Replay.{replayChecks, Outcome, replay}
 
 -- "A budget above 15 is 7, so a call completes at most one subframe and one DSM": so do fifteen pages, whatever they are, from any record
+pub record AtMostOneEach (s : State) (r : Run) : Type 0 where
+  pub subframe : length (r .subframes) ≤ 1
+  pub dsm : length (r .dsms) ≤ 1
+  -- and of completed and silent ones together there is at most one
+  pub pair : length (r .subframes) + r .state .totals .silent ≤ 1 + s .totals .silent
+
 abbrev pub OneOfEach : Type 0
-OneOfEach = (s : State) (pages : List (List ℕ)) → length pages ≤ 15 → (length (replayed s pages .subframes) ≤ 1) × (length (replayed s pages .dsms) ≤ 1)
+OneOfEach = (s : State) (pages : List (List ℕ)) → length pages ≤ 15 → AtMostOneEach s (replayed s pages)
+
+-- Document 02, [2]: a page that counts completes a subframe, or one is silent, exactly where the subframe collector has an answer
+abbrev pub comesOut : Answer → ℕ
+comesOut (refused n) = 0
+comesOut nothing = 0
+comesOut (gives l) = 1
+
+pub record OnePair (s : State) (page : List ℕ) (t : Totals) : Type 0 where
+  pub counted : isCounted page ≡ true
+      → t .subframes + t .silent ≡ s .totals .subframes + s .totals .silent + comesOut (feedPage (s .subframes) (fedPage s page) .answer)
+  pub skipped : isCounted page ≡ false → t .subframes + t .silent ≡ s .totals .subframes + s .totals .silent
+
+abbrev pub PairsCounted : Type 0
+PairsCounted = (s : State) (page : List ℕ) → OnePair s page (pageStep s page .state .totals)
+
+-- "a silent pair never reaches the DSM collector", and its count is its own: no subframe and no DSM is answered, the DSM collector is as it was
+pub record StaysOut (s : State) (r : Run) : Type 0 where
+  pub no-subframe : r .subframes ≡ []
+  pub no-dsm : r .dsms ≡ []
+  pub dsms-are : r .state .dsms ≡ s .dsms
+  pub subframes-total : r .state .totals .subframes ≡ s .totals .subframes
+  pub dsms-total : r .state .totals .dsms ≡ s .totals .dsms
+  pub silent-total : r .state .totals .silent ≡ s .totals .silent + 1
+
+abbrev pub SilentStaysOut : Type 0
+SilentStaysOut =
+    (s : State) (page : List ℕ) (week subframe : ℕ) → isCounted page ≡ true
+    → feedPage (s .subframes) (fedPage s page) .answer ≡ silent week subframe → StaysOut s (pageStep s page)
 
 -- "Pages include skipped ones": skipped plus used plus unused pages is all pages, and the other totals are how many were completed
 pub record AddsUp (t : Totals) (r : Run) (n : ℕ) : Type 0 where
@@ -84,6 +120,7 @@ plus t n =
       unused = t .unused + n;
       subframes = t .subframes + n;
       dsms = t .dsms + n;
+      silent = t .silent + n;
     }
 
 pub record Ready (s : State) (n : ℕ) : Type 0 where
@@ -110,15 +147,25 @@ NewIsReady =
 abbrev pub TotalsSayUsed : Type 0
 TotalsSayUsed = (s : Subframes) (p : Page) → refusal (feedChecks s p) ≡ 0 → isTaken (usedAnswer s p) ≡ isUsed s p
 
--- "Fifteen good pages with a zero field, satellite 3, week 1200, time 60": `S 3 1200 60`, `pages 15 skipped 0 subframes 1 dsms 0`
+-- "Fifteen good pages with a zero field, satellite 3, week 1200, time 60"; document 02, [2]: "document 01's listing becomes no S line and
+-- `pages 15 skipped 0 subframes 0 dsms 0 silent 1 tail 0`"
 abbrev pub goodPage : List ℕ
 goodPage = replicate 15 0 ++ (128 ∷ replicate 14 0)
 
-abbrev pub fifteen : Run
-fifteen = replayed (new 3 1200 60 (replicate 540 0) (replicate 2160 0) (replicate 208 0)) (replicate 15 goodPage)
+-- its twin: the last MACK byte is 1, which ends at bit 177
+abbrev pub lastPage : List ℕ
+lastPage = replicate 15 0 ++ (128 ∷ replicate 6 0 ++ (64 ∷ replicate 7 0))
 
-abbrev pub Example : Type 0
-Example =
-    (fifteen .subframes ≡ record { week = 1200; time = 60 } ∷ [])
-    × (fifteen .dsms ≡ [])
-    × (fifteen .state .totals ≡ record { pages = 15; skipped = 0; used = 15; unused = 0; subframes = 1; dsms = 0 })
+-- fourteen of them, and one more
+abbrev pub fifteen : List ℕ → Run
+fifteen last = replayed (new 3 1200 60 (replicate 540 0) (replicate 2160 0) (replicate 208 0)) (replicate 14 goodPage ++ (last ∷ []))
+
+pub record Example : Type 0 where
+  pub silent-subframes : fifteen goodPage .subframes ≡ []
+  pub silent-dsms : fifteen goodPage .dsms ≡ []
+  pub silent-totals :
+      fifteen goodPage .state .totals ≡ record { pages = 15; skipped = 0; used = 15; unused = 0; subframes = 0; dsms = 0; silent = 1 }
+  pub twin-subframes : fifteen lastPage .subframes ≡ record { week = 1200; time = 60 } ∷ []
+  pub twin-dsms : fifteen lastPage .dsms ≡ []
+  pub twin-totals :
+      fifteen lastPage .state .totals ≡ record { pages = 15; skipped = 0; used = 15; unused = 0; subframes = 1; dsms = 0; silent = 0 }

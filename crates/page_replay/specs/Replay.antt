@@ -1,4 +1,4 @@
--- The page replay: document 01, "Page replay".
+-- The page replay: document 01, "Page replay", and document 02, [2], "Silent satellites show up as complete".
 -- Assumes nothing.
 use Prim.Native.Nat.{ℕ, zero, suc, _+_, _-_, _/_, _^_, min}
 use mathlib.Core.List.{List, [], _∷_, _++_}
@@ -28,7 +28,8 @@ pub record Dsm : Type 0 where
   pub id : ℕ
   pub bytes : ℕ
 
--- "Pages include skipped ones"; a page that counts is used where the subframe collector takes its word, and else unused
+-- "Pages include skipped ones"; a page that counts is used where the subframe collector takes its word, and else unused; "silent subframes get their own
+-- count"
 pub record Totals : Type 0 where
   pub pages : ℕ
   pub skipped : ℕ
@@ -36,6 +37,7 @@ pub record Totals : Type 0 where
   pub unused : ℕ
   pub subframes : ℕ
   pub dsms : ℕ
+  pub silent : ℕ
 
 -- "the record of a running replay": the satellite, the time of the next page, the two collectors with their lent bytes, and the totals
 pub record State : Type 0 where
@@ -46,7 +48,7 @@ pub record State : Type 0 where
   pub totals : Totals
 
 abbrev pub noTotals : Totals
-noTotals = record { pages = 0; skipped = 0; used = 0; unused = 0; subframes = 0; dsms = 0 }
+noTotals = record { pages = 0; skipped = 0; used = 0; unused = 0; subframes = 0; dsms = 0; silent = 0 }
 
 -- a new one, of a satellite and the time of the first page
 abbrev pub new : ℕ → ℕ → ℕ → List ℕ → List ℕ → List ℕ → State
@@ -98,6 +100,7 @@ skipped s =
                   unused = s .totals .unused;
                   subframes = s .totals .subframes;
                   dsms = s .totals .dsms;
+                  silent = s .totals .silent;
                 };
           };
       subframes = [];
@@ -115,19 +118,24 @@ hkrootOf s satellite = copied 15 (s .hkroot) (view s 15 satellite) .bytes
 unfoldable pub fedHkroot : Dsms → List ℕ → DsmFed
 fedHkroot d m = feedBlock d (getD m 1 0) (take 13 (drop 2 m))
 
--- "Complete HKROOTs feed the DSM collector."
-abbrev pub passedOn : Answer → Subframes → ℕ → Dsms → DsmFed
-passedOn (refused n) s satellite d = record { state = d; answer = nothing }
-passedOn nothing s satellite d = record { state = d; answer = nothing }
-passedOn (gives l) s satellite d = fedHkroot d (hkrootOf s satellite)
-
--- what a collector's answer completes
+-- What a collector's answer completes. "A pair whose 75 bytes are all zero is to be answered "silent" in place of complete": it has a third number, and is
+-- no completed subframe,
 abbrev pub subframesIn : Answer → List Time
 subframesIn (refused n) = []
 subframesIn nothing = []
 subframesIn (gives []) = []
 subframesIn (gives (w ∷ [])) = []
-subframesIn (gives (w ∷ t ∷ l)) = record { week = w; time = t } ∷ []
+subframesIn (gives (w ∷ t ∷ [])) = record { week = w; time = t } ∷ []
+subframesIn (gives (w ∷ t ∷ n ∷ l)) = []
+
+-- but a silent one.
+abbrev pub silentIn : Answer → List Time
+silentIn (refused n) = []
+silentIn nothing = []
+silentIn (gives []) = []
+silentIn (gives (w ∷ [])) = []
+silentIn (gives (w ∷ t ∷ [])) = []
+silentIn (gives (w ∷ t ∷ n ∷ l)) = record { week = w; time = t } ∷ []
 
 abbrev pub dsmsIn : Answer → List Dsm
 dsmsIn (refused n) = []
@@ -136,6 +144,11 @@ dsmsIn (gives []) = []
 dsmsIn (gives (i ∷ [])) = []
 dsmsIn (gives (i ∷ t ∷ [])) = []
 dsmsIn (gives (i ∷ t ∷ n ∷ l)) = record { id = i; bytes = n } ∷ []
+
+-- "Complete HKROOTs feed the DSM collector."; "a silent pair never reaches the DSM collector"
+abbrev pub passedOn : List Time → Subframes → ℕ → Dsms → DsmFed
+passedOn [] s satellite d = record { state = d; answer = nothing }
+passedOn (t ∷ l) s satellite d = fedHkroot d (hkrootOf s satellite)
 
 -- a page is used where the subframe collector, asked before, says so
 abbrev pub isTaken : Answer → Bool
@@ -165,6 +178,7 @@ counted s u f d =
                   unused = s .totals .unused + one (not u);
                   subframes = s .totals .subframes + length (subframesIn (f .answer));
                   dsms = s .totals .dsms + length (dsmsIn (d .answer));
+                  silent = s .totals .silent + length (silentIn (f .answer));
                 };
           };
       subframes = subframesIn (f .answer);
@@ -174,7 +188,7 @@ counted s u f d =
 unfoldable pub fed : State → Page → Run
 fed s p =
     let f = feedPage (s .subframes) p in
-    counted s (isTaken (usedAnswer (s .subframes) p)) f (passedOn (f .answer) (f .state) (s .satellite) (s .dsms))
+    counted s (isTaken (usedAnswer (s .subframes) p)) f (passedOn (subframesIn (f .answer)) (f .state) (s .satellite) (s .dsms))
 
 -- A page step.
 unfoldable pub pageStep : State → List ℕ → Run
@@ -215,7 +229,8 @@ most = 2 ^ 62
 
 unfoldable pub areFew : Totals → Bool
 areFew t =
-    leb (t .pages) most && leb (t .skipped) most && leb (t .used) most && leb (t .unused) most && leb (t .subframes) most && leb (t .dsms) most
+    leb (t .pages) most && leb (t .skipped) most && leb (t .used) most && leb (t .unused) most && leb (t .subframes) most && leb (t .dsms) most &&
+    leb (t .silent) most
 
 -- the same checks, each under that number
 abbrev pub under : ℕ → List Check → List Check

@@ -8,7 +8,7 @@ use mathlib.Core.Bool.{true, false, cond}
 use mathlib.Core.Path.{_≡_}
 use lib.ListN.{length, getD, take, drop, replicate}
 use lib.Dec.{ltb}
-use Rattle.layouts.specs.Answer.{Answer, refused, nothing, gives, refusal}
+use Rattle.layouts.specs.Answer.{refused, gives, refusal}
 use Rattle.layouts.specs.Gst.{svnGstChecks}
 use Rattle.layouts.specs.InavPage.{isCounted, osnma}
 use Rattle.subframes.specs.Subframe.{Page, State as Subframes, new as newSubframes, feed as feedPage}
@@ -20,8 +20,8 @@ use Rattle.dsms.specs.Dsm.{State as Dsms, new as newDsms}
 use Rattle.dsms.specs.DsmPromises.{state as dsmState}
 use Rattle.dsms.specs.DsmRecovery.{Call as Block, isAdmitted as isAdmittedBlock, fedTo, after as afterBlocks, run as runOfBlocks, Recovers as BlockRecovers}
 use Rattle.dsms.specs.DsmHistory.{History as DsmHistory, Shows as ShowsDsm}
-use Rattle.page_replay.specs.Replay.{Time, later, Dsm, Run, hkrootOf, subframesIn, dsmsIn, pagesOf, wholePages, most, replayed}
-use Rattle.page_replay.specs.Pieces.{reported, goodPage}
+use Rattle.page_replay.specs.Replay.{Time, later, Dsm, Run, hkrootOf, subframesIn, silentIn, dsmsIn, pagesOf, wholePages, most, replayed}
+use Rattle.page_replay.specs.Pieces.{reported, goodPage, lastPage}
 use Rattle.page_replay.specs.ReplayPromises.{state, meaning-replay, meaning-subframes, meaning-dsms, BeginReplay, ReplayPages}
 use Rattle.page_replay.specs.declared.replay.PageReplay.{PageReplay}
 use Rattle.page_replay.specs.declared.replay.Begun.{Begun}
@@ -77,19 +77,22 @@ fedFrom satellite t (page ∷ pages) = fedAs satellite t page ++ fedFrom satelli
 abbrev pub blockIn : List ℕ → Block
 blockIn m = record { header = getD m 1 0; block = take 13 (drop 2 m) }
 
-abbrev pub blocksIn : Answer → Subframes → ℕ → List Block
-blocksIn (refused n) s satellite = []
-blocksIn nothing s satellite = []
-blocksIn (gives l) s satellite = blockIn (hkrootOf s satellite) ∷ []
+abbrev pub blocksIn : List Time → Subframes → ℕ → List Block
+blocksIn [] s satellite = []
+blocksIn (t ∷ l) s satellite = blockIn (hkrootOf s satellite) ∷ []
 
 unfoldable pub blocksFrom : Subframes → List Page → List Block
 blocksFrom s [] = []
-blocksFrom s (p ∷ ps) = blocksIn (feedPage s p .answer) (feedPage s p .state) (p .satellite) ++ blocksFrom (feedPage s p .state) ps
+blocksFrom s (p ∷ ps) = blocksIn (subframesIn (feedPage s p .answer)) (feedPage s p .state) (p .satellite) ++ blocksFrom (feedPage s p .state) ps
 
 -- what a collector answers to them, one by one
 unfoldable pub subframesFrom : Subframes → List Page → List Time
 subframesFrom s [] = []
 subframesFrom s (p ∷ ps) = subframesIn (feedPage s p .answer) ++ subframesFrom (feedPage s p .state) ps
+
+unfoldable pub silentFrom : Subframes → List Page → List Time
+silentFrom s [] = []
+silentFrom s (p ∷ ps) = silentIn (feedPage s p .answer) ++ silentFrom (feedPage s p .state) ps
 
 unfoldable pub dsmsFrom : Dsms → List Block → List Dsm
 dsmsFrom d [] = []
@@ -118,6 +121,8 @@ pub record Recovered (b : Beginning) (c : PageReplay) (hkroot mack memory : List
   pub dsms-are : dsmState (c .dsms) memory ≡ afterBlocks (firstDsms b) (blocksFed b pages)
   pub subframes-answered : times ≡ subframesFrom (firstSubframes b) (pagesFed b pages)
   pub dsms-answered : dsms ≡ dsmsFrom (firstDsms b) (blocksFed b pages)
+  -- "silent subframes get their own count": how many of its answers were silent
+  pub silent-counted : c .silent ≡ length (silentFrom (firstSubframes b) (pagesFed b pages))
   -- the collectors refuse none of them
   pub page-admitted : (ps qs : List Page) (p : Page) → pagesFed b pages ≡ ps ++ (p ∷ qs) → isAdmittedPage p ≡ true
   pub block-admitted : (cs es : List Block) (d : Block) → blocksFed b pages ≡ cs ++ (d ∷ es) → isAdmittedBlock d ≡ true
@@ -201,6 +206,7 @@ zeros =
             unused = 0;
             «subframes_done» = 0;
             «dsms_done» = 0;
+            silent = 0;
           };
       hkroot = replicate 540 0;
       mack = replicate 2160 0;
@@ -214,13 +220,16 @@ joined (page ∷ pages) = page ++ joined pages
 abbrev pub goodPages : ℕ → List ℕ
 goodPages n = joined (replicate n goodPage)
 
--- It is refused with 7, and the other eight complete the subframe; seven of them do not.
+-- It is refused with 7, and with the other eight the subframe is silent, or complete if the last byte is 1; with seven of them it is neither.
 pub record SmallestCase : Type 0 where
   pub begins : BeginReplay 3 1200 60 (record { replay = zeros .replay; answer = Ready })
   pub comes-out : {c : PageReplay} {hkroot mack memory : List ℕ} → History zeros c hkroot mack memory (replicate 7 goodPage) [] []
       → (bytes : List ℕ) (r : Replayed) (hkroot′ mack′ memory′ : List ℕ) → ReplayPages c hkroot mack memory bytes 16 r hkroot′ mack′ memory′
       → (q : Replayed) (hkroot″ mack″ memory″ : List ℕ) → ReplayPages (r .replay) hkroot′ mack′ memory′ (goodPages 8) 15 q hkroot″ mack″ memory″
-      → (r .answer ≡ Refused 7) × (q .answer ≡ Consumed 8) × (q .subframe ≡ Subframe 1200 60)
+      → (r .answer ≡ Refused 7) × (q .answer ≡ Consumed 8) × (q .subframe ≡ None) × (q .replay .silent ≡ 1)
+  pub completes : {c : PageReplay} {hkroot mack memory : List ℕ} → History zeros c hkroot mack memory (replicate 7 goodPage) [] []
+      → (q : Replayed) (hkroot′ mack′ memory′ : List ℕ) → ReplayPages c hkroot mack memory (goodPages 7 ++ lastPage) 15 q hkroot′ mack′ memory′
+      → (q .answer ≡ Consumed 8) × (q .subframe ≡ Subframe 1200 60) × (q .replay .silent ≡ 0)
   pub stays-out : {c : PageReplay} {hkroot mack memory : List ℕ} → History zeros c hkroot mack memory (replicate 7 goodPage) [] []
       → (q : Replayed) (hkroot′ mack′ memory′ : List ℕ) → ReplayPages c hkroot mack memory (goodPages 7) 15 q hkroot′ mack′ memory′
-      → (q .answer ≡ Consumed 7) × (q .subframe ≡ None)
+      → (q .answer ≡ Consumed 7) × (q .subframe ≡ None) × (q .replay .silent ≡ 0)

@@ -35,6 +35,7 @@ state r hkroot mack memory =
             unused = r .unused;
             subframes = r .«subframes_done»;
             dsms = r .«dsms_done»;
+            silent = r .silent;
           };
     }
 

@@ -16,10 +16,10 @@ use subframes::subframe::SubframeFed;
 use subframes::subframe::WordAnswer;
 ghost use mathlib.Core.Path.{_≡_};
 ghost use mathlib.Core.List.{List};
-ghost use Prim.Native.Nat.{ℕ, _+_, _^_};
+ghost use Prim.Native.Nat.{ℕ, _+_, _^_, _≤_};
 ghost use lib.ListN.{length};
-ghost use Rattle.page_replay.specs.Replay.{isTaken, hkrootOf, fedHkroot, passedOn, subframesIn, dsmsIn, one as oneOf, skipped as skippedOf};
-ghost use Rattle.page_replay.specs.Replay.{counted as countedOf, fed as fedOf, pageStep};
+ghost use Rattle.page_replay.specs.Replay.{isTaken, hkrootOf, fedHkroot, passedOn, subframesIn, silentIn, dsmsIn, one as oneOf};
+ghost use Rattle.page_replay.specs.Replay.{skipped as skippedOf, counted as countedOf, fed as fedOf, pageStep};
 ghost use Rattle.layouts.specs.InavPage.{isCounted, osnma as osnmaOf};
 ghost use Rattle.subframes.specs.SubframePromises.{outcome as subframeOutcome, meaning-subframe, meaning-word, state as subframeState};
 ghost use Rattle.dsms.specs.DsmPromises.{outcome as dsmOutcome, meaning-dsm, state as dsmState};
@@ -80,7 +80,7 @@ fn feed_hkroot(
     feed_message(dsms, dsm, bytes)
 }
 
-// The same, where the message has become complete; else nothing.
+// The same, where the message has become complete; else nothing. A silent one goes no further.
 fn pass_on(
     fed: SubframeFed,
     hkroot: &[u8],
@@ -90,7 +90,7 @@ fn pass_on(
     dsm: &mut [u8],
 ) -> DsmFed
     ensures { λ r. ⌜ dsmOutcome r (now (dsm .exit))
-        ≡ passedOn (meaning-subframe (fed .answer))
+        ≡ passedOn (subframesIn (meaning-subframe (fed .answer)))
         (subframeState (fed .collector) (now (hkroot .entry)) (now (mack .entry))) satellite (dsmState dsms (now (dsm .entry))) ⌝ }
 {
     let answer = fed.answer;
@@ -107,6 +107,10 @@ fn pass_on(
             let collector = fed.collector;
             feed_hkroot(collector, hkroot, mack, satellite, dsms, dsm)
         }
+        SubframeAnswer::Silent { week: _, time: _ } => DsmFed {
+            collector: dsms,
+            answer: DsmAnswer::Nothing,
+        },
     }
 }
 
@@ -117,6 +121,20 @@ fn subframe_done(answer: SubframeAnswer) -> SubframeDone
         SubframeAnswer::Refused(_) => SubframeDone::None,
         SubframeAnswer::Nothing => SubframeDone::None,
         SubframeAnswer::Complete { week, time } => SubframeDone::Subframe { week, time },
+        SubframeAnswer::Silent { week: _, time: _ } => SubframeDone::None,
+    }
+}
+
+// How many silent subframes an answer tells of.
+fn silent_in(answer: SubframeAnswer) -> u64
+    ensures { λ r. ⌜ r ≡ length (silentIn (meaning-subframe answer)) ⌝ }
+    ensures { λ r. ⌜ r ≤ 1 ⌝ }
+{
+    match answer {
+        SubframeAnswer::Refused(_) => 0,
+        SubframeAnswer::Nothing => 0,
+        SubframeAnswer::Complete { week: _, time: _ } => 0,
+        SubframeAnswer::Silent { week: _, time: _ } => 1,
     }
 }
 
@@ -186,6 +204,7 @@ fn tally(record: PageReplay, used: bool, fed: SubframeFed, passed: DsmFed) -> St
         unused: record.unused + one(!used),
         subframes_done: record.subframes_done + subframes_in(subframe),
         dsms_done: record.dsms_done + dsms_in(dsm),
+        silent: record.silent + silent_in(answer),
     };
     Stepped {
         replay,

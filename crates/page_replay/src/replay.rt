@@ -34,6 +34,7 @@ pub struct PageReplay {
     pub unused: u64,
     pub subframes_done: u64,
     pub dsms_done: u64,
+    pub silent: u64,
 }
 
 pub enum Begun {
@@ -95,6 +96,7 @@ fn fresh(satellite: u8, week: u16, time: u32) -> PageReplay
         unused: 0,
         subframes_done: 0,
         dsms_done: 0,
+        silent: 0,
     }
 }
 
@@ -216,6 +218,9 @@ fn totals_few(record: PageReplay) -> bool
         return false;
     }
     if most < record.dsms_done {
+        return false;
+    }
+    if most < record.silent {
         return false;
     }
     true

@@ -13,7 +13,7 @@ use Rattle.subframes.specs.SubframePromises.{meaning-subframe, meaning-shown, m
 use Rattle.storage.specs.StorePromises.{meaning-store, meaning-found}
 use Rattle.transmitter.specs.WritePromises.{meaning-written, meaning-header}
 use Rattle.subframes.specs.declared.subframe.SubframeAnswer.{SubframeAnswer}
-use Rattle.subframes.specs.declared.subframe.SubframeAnswer.the-variants.{Refused, Nothing, Complete}
+use Rattle.subframes.specs.declared.subframe.SubframeAnswer.the-variants.{Refused, Nothing, Complete, Silent}
 use Rattle.subframes.specs.declared.subframe.SubframeShown.{SubframeShown}
 use Rattle.subframes.specs.declared.subframe.SubframeShown.the-variants.{Shown, Nothing as NothingShown, Refused as NotShown}
 use Rattle.subframes.specs.declared.subframe.WordAnswer.{WordAnswer}
@@ -49,6 +49,10 @@ module _ {x : SubframeAnswer} {r : Told} where
   pub page-complete : {w t : ℕ} → x ≡ Complete w t → r ≡ numbers 1 w t 0 → r ≡ told (meaning-subframe x)
   unfolding told
   page-complete e g = g ∙ sym (ap (λ (y : SubframeAnswer). told (meaning-subframe y)) e)
+
+  pub page-silent : {w t : ℕ} → x ≡ Silent w t → r ≡ numbers 1 w t 1 → r ≡ told (meaning-subframe x)
+  unfolding told
+  page-silent e g = g ∙ sym (ap (λ (y : SubframeAnswer). told (meaning-subframe y)) e)
 
 -- where a message of a subframe lies
 module _ {x : SubframeShown} {r : Told} where

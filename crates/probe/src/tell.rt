@@ -80,6 +80,7 @@ pub(crate) fn subframe(answer: SubframeAnswer) -> Told
         SubframeAnswer::Refused(n) => refused(n),
         SubframeAnswer::Nothing => nothing(),
         SubframeAnswer::Complete { week, time } => given(week as u64, time as u64, 0),
+        SubframeAnswer::Silent { week, time } => given(week as u64, time as u64, 1),
     }
 }
 

@@ -4,19 +4,19 @@ use Prim.Native.Nat.{ℕ, suc, _+_, _-_, _*_, _/_, _%_, _≤_, _<_}
 use native.Mathlib.Omega.{arith}
 use mathlib.Core.Path.{_≡_, refl, sym, ap, _∙_, subst}
 use mathlib.Core.List.{List, [], _∷_}
-use mathlib.Core.Bool.{true, false}
+use mathlib.Core.Bool.{Bool, true, false}
 use lib.ListN.{length, getD, take, drop, length-take, length-drop}
 use borrow.Author.Tests.{eq-eqb, ne-eqb}
 use Rattle.layouts.specs.Answer.{Answer, refused, nothing, gives, refusal}
 use Rattle.layouts.specs.Gst.{svnGstChecks}
 use Rattle.layouts.proofs.Answers.{none-fails}
-use Rattle.subframes.specs.Subframe.{State, Page, Fed, recordChecks, feedChecks, feed}
+use Rattle.subframes.specs.Subframe.{State, Page, Fed, recordChecks, feedChecks, isSilent, outOf, feed}
 use Rattle.subframes.specs.Trace.{entryAt, entriesFrom, entries, FedMany, feedEach, traceChecks, feedAll}
 use Rattle.subframes.specs.inner.Page.{pageOf, stateOf, answerOf, PageFed}
-use Rattle.subframes.specs.inner.Trace.{completesOf, endsWith}
+use Rattle.subframes.specs.inner.Trace.{isLast, endsWith}
 use Rattle.subframes.specs.declared.page.Entry.{Entry}
 use Rattle.subframes.specs.declared.page.PageTaken.{PageTaken}
-use Rattle.subframes.specs.declared.page.PageTaken.the-variants.{Unused, Used, Completes}
+use Rattle.subframes.specs.declared.page.PageTaken.the-variants.{Unused, Used, Last}
 use Rattle.subframes.proofs.Pages.{fine, feed-refused}
 use Rattle.subframes.proofs.SubframeSound.{Sound, sound, sound-passes, sound-fed}
 
@@ -145,6 +145,9 @@ module _ (t : Turn) where
     pub turn-time : t .e .time ≤ 604799
     turn-time = fine (t .s) page number z .in-week
 
+    pub turn-satellite : (1 ≤ t .e .satellite) × (t .e .satellite ≤ 36)
+    turn-satellite = let f = fine (t .s) page number z in (f .some, f .few)
+
 -- A turn whose page was taken.
 pub record Taken : Type 0 where
   pub turn : Turn
@@ -166,20 +169,29 @@ module _ (w : Taken) where
   abbrev then : State
   then = stateOf (e .week) (e .time / 30) (w .counts) (w .hkroot) (w .mack)
 
-  pub turn-completes : {x : FedMany} {a : Answer} → completesOf (w .r) ≡ true → a ≡ answerOf (w .r) (e .week) (e .time / 30)
+  abbrev answer : PageTaken → Answer
+  answer r = answerOf r (e .week) (e .time / 30) (isSilent (w .hkroot) (w .mack) (e .satellite - 1))
+
+  pub turn-last : {x : FedMany} {a : Answer} → isLast (w .r) ≡ true → a ≡ answer (w .r)
       → x ≡ record { state = then; answer = a; consumed = t .k + 1 } → x ≡ feedEach 0 (t .s₀) (entries (t .trace))
-  turn-completes c ea ex =
-      ex ∙ rw (ea, is-gives (w .r) c) (each-completes (t .k) (t .s) (page t) (later t) (w .fed .fed) (is-gives (w .r) c) ∙ ahead t)
+  turn-last {a = a} c ea ex =
+      let g = is-gives (w .r) c in
+      let whole = each-completes (t .k) (t .s) (page t) (later t) (w .fed .fed) (g .1) ∙ ahead t in
+      ex ∙ ap (λ (y : Answer). record { state = then; answer = y; consumed = t .k + 1 }) (ea ∙ g .1) ∙ whole
     where
-      is-gives : (r : PageTaken) → completesOf r ≡ true → answerOf r (e .week) (e .time / 30) ≡ gives (e .week ∷ 30 * (e .time / 30) ∷ [])
-      is-gives Unused c = cc
-      is-gives Used c = cc
-      is-gives Completes c = refl
+      either : (b : Bool) → (l : List ℕ) × (outOf b (e .week) (e .time / 30) ≡ gives l)
+      either true = (_, refl)
+      either false = (_, refl)
+
+      is-gives : (r : PageTaken) → isLast r ≡ true → (l : List ℕ) × (answer r ≡ gives l)
+      is-gives Unused c = let z : _≡_ {A = ℕ} 0 1 = cc in absurd (omega arith)
+      is-gives Used c = let z : _≡_ {A = ℕ} 0 1 = cc in absurd (omega arith)
+      is-gives Last c = either (isSilent (w .hkroot) (w .mack) (e .satellite - 1))
 
   pub turn-sound : Sound then
   turn-sound = subst (λ (x : Fed). Sound (x .state)) (sym (w .fed .fed)) (sound-fed (t .s) (page t) (t .left .fine))
 
-  pub turn-goes-on : completesOf (w .r) ≡ false → Left (t .s₀) (t .trace) (t .k + 1) then
+  pub turn-goes-on : isLast (w .r) ≡ false → Left (t .s₀) (t .trace) (t .k + 1) then
   unfolding later
   turn-goes-on c =
       record {
@@ -189,10 +201,10 @@ module _ (w : Taken) where
         rest = each-goes-on (t .k) (t .s) (page t) (later t) (w .fed .fed) (is-nothing (w .r) c) ∙ ahead t;
       }
     where
-      is-nothing : (r : PageTaken) → completesOf r ≡ false → answerOf r (e .week) (e .time / 30) ≡ nothing
+      is-nothing : (r : PageTaken) → isLast r ≡ false → answer r ≡ nothing
       is-nothing Unused c = refl
       is-nothing Used c = refl
-      is-nothing Completes c = cc
+      is-nothing Last c = let z : _≡_ {A = ℕ} 0 1 = cc in absurd (omega arith)
 
 -- The whole call.
 module _ (s : State) (trace : List ℕ) {q : ℕ} (e : q ≡ refusal (traceChecks s trace)) where

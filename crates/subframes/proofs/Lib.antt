@@ -1,6 +1,7 @@
 pub mod Counts
 pub mod Entries
 pub mod Pages
+pub mod SilentPairs
 pub mod SubframeHistory
 pub mod SubframeRecovery
 pub mod SubframeRun

@@ -3,21 +3,24 @@
 use Prim.Native.Nat.{ℕ, zero, suc, _+_, _-_, _*_, _/_, _≤_, _<_}
 use native.Mathlib.Omega.{arith}
 use mathlib.Core.Path.{_≡_, refl, sym, ap, _∙_}
-use mathlib.Core.List.{List, [], _∷_}
-use mathlib.Core.Bool.{Bool, true, false, cond, not}
-use lib.ListN.{length, getD, set, take, drop, replicate, getD-replicate}
+use mathlib.Core.List.{List, [], _∷_, _++_}
+use mathlib.Core.Bool.{Bool, true, false, cond, not, _&&_}
+use lib.ListN.{length, getD, set, take, drop, replicate, getD-replicate, length-drop}
+use lib.Seq.{take-suc, getD-drop}
+use lib.Bits.{bitOr, or-zero-l, or-add-and, and-le-r}
 use lib.Dec.{ltb, eqb, eqb·suc-zero}
 use borrow.Author.Tests.{le-ltb, lt-ltb, eq-eqb, ne-eqb, eqb-true, ltb-false, not-false}
 use Rattle.layouts.specs.Answer.{Answer, refused, nothing, gives, Check, refusal, shown, Copied, copied}
 use Rattle.layouts.specs.Gst.{svnChecks, svnGstChecks}
 use Rattle.layouts.proofs.Answers.{none-fails, stopped, went-on, copied-refused, copied-bytes}
 use Rattle.subframes.specs.Subframe.{State, Page, Fed, WordStep, wordOf, subframeOf, small, rangeChecks, recordChecks, viewChecks}
-use Rattle.subframes.specs.Subframe.{askChecks, feedChecks, takeWord, fresh, changed, put4, answerAt, used, offered, isUsed, feed, usedAnswer, view}
+use Rattle.subframes.specs.Subframe.{askChecks, feedChecks, takeWord, fresh, changed, put4, usedAnswer, view}
+use Rattle.subframes.specs.Subframe.{zeros, isSilent, complete, silent, outOf, answerAt, used, offered, isUsed, feed}
 use Rattle.subframes.specs.inner.Page.{pageOf, stateOf, answerOf, usedOf, Offered, PageFed}
 use Rattle.subframes.specs.SubframePromises.{state, TakeWord, meaning-word, sizeOf, bufferOf, meaning-shown, ViewSubframeShown, ViewSubframe}
 use Rattle.subframes.specs.declared.page.Entry.{Entry}
 use Rattle.subframes.specs.declared.page.PageTaken.{PageTaken}
-use Rattle.subframes.specs.declared.page.PageTaken.the-variants.{Unused, Used, Completes}
+use Rattle.subframes.specs.declared.page.PageTaken.the-variants.{Unused, Used, Last}
 use Rattle.subframes.specs.declared.subframe.Message.{Message}
 use Rattle.subframes.specs.declared.subframe.Message.the-variants.{Hkroot, Mack}
 use Rattle.subframes.specs.inner.Subframe.{Inside}
@@ -205,27 +208,82 @@ pub same-subframe :
 unfolding changed
 same-subframe {week} {subframe} counts h m e f = rw (← e, ← f, eq-eqb week week refl, eq-eqb subframe subframe refl)
 
+-- Zeros, one byte more and one byte less.
+or-zero : (a b : ℕ) → eqb (bitOr a b) 0 ≡ (eqb a 0 && eqb b 0)
+or-zero zero b = rw (or-zero-l b)
+or-zero (suc a) b =
+    rw (eqb·suc-zero a)
+    (ne-eqb (bitOr (suc a) b) 0 (λ z. absurd (omega (arith, z, or-add-and (suc a) b, and-le-r (suc a) b))))
+
+and-end : (a : Bool) → (a && true) ≡ a
+and-end true = refl
+and-end false = refl
+
+and-joined : (a b c : Bool) → (a && (b && c)) ≡ ((a && b) && c)
+and-joined true b c = refl
+and-joined false b c = refl
+
+zeros-more : (l : List ℕ) (b : ℕ) → zeros (l ++ (b ∷ [])) ≡ (zeros l && eqb b 0)
+unfolding zeros
+zeros-more [] b = and-end (eqb b 0)
+zeros-more (a ∷ l) b = ap (λ (x : Bool). eqb a 0 && x) (zeros-more l b) ∙ and-joined (eqb a 0) (zeros l) (eqb b 0)
+
+module _ (l : List ℕ) (first : ℕ) where
+  pub zeros-none : true ≡ zeros (take 0 (drop first l))
+  unfolding zeros
+  zeros-none = refl
+
+  pub zeros-turn : (i any : ℕ) → first + i < length l → eqb any 0 ≡ zeros (take i (drop first l))
+      → eqb (bitOr any (getD l (first + i) 0)) 0 ≡ zeros (take (i + 1) (drop first l))
+  zeros-turn i any h e =
+      let here : getD (drop first l) i 0 ≡ getD l (first + i) 0 = getD-drop first l i 0 in
+      let inside : i < length (drop first l) = rw (length-drop first l) (omega arith) in
+      let next : i + 1 ≡ suc i = omega arith in
+      or-zero any (getD l (first + i) 0) ∙ ap (λ (x : Bool). x && eqb (getD l (first + i) 0) 0) e
+      ∙ sym (ap (λ (n : ℕ). zeros (take n (drop first l))) next ∙ ap zeros (take-suc (drop first l) i 0 inside)
+      ∙ zeros-more (take i (drop first l)) (getD (drop first l) i 0) ∙ ap (λ (x : ℕ). zeros (take i (drop first l)) && eqb x 0) here)
+
+  pub zeros-end : {i many : ℕ} (any : ℕ) → i ≤ many → many ≤ i → eqb any 0 ≡ zeros (take i (drop first l)) → eqb any 0 ≡ zeros (take many (drop first l))
+  zeros-end {i} {many} any few all e = let same : i ≡ many = omega arith in e ∙ ap (λ (n : ℕ). zeros (take n (drop first l))) same
+
+module _ (h m : List ℕ) (i : ℕ) {a : Bool} (ea : a ≡ zeros (take 15 (drop (15 * i) h))) where
+  pub silent-both : {b : Bool} → b ≡ zeros (take 60 (drop (60 * i) m)) → a ≡ true → b ≡ isSilent h m i
+  unfolding isSilent
+  silent-both eb e = rw (← ea, ← eb, e)
+
+  pub silent-not : a ≡ false → a ≡ isSilent h m i
+  unfolding isSilent
+  silent-not e = rw (← ea, e)
+
 -- The page of a satellite.
-pub answer-15 : (n week subframe : ℕ) → n ≡ 15 → gives (week ∷ 30 * subframe ∷ []) ≡ answerAt n week subframe
+pub answer-15 : (n week subframe : ℕ) (b : Bool) → n ≡ 15 → outOf b week subframe ≡ answerAt n week subframe b
 unfolding answerAt
-answer-15 n week subframe e = rw (eq-eqb n 15 e)
+answer-15 n week subframe b e = rw (eq-eqb n 15 e)
 
-pub answer-less : (n week subframe : ℕ) → (n ≡ 15 → ⊥) → nothing ≡ answerAt n week subframe
+pub answer-less : (n week subframe : ℕ) (b : Bool) → (n ≡ 15 → ⊥) → nothing ≡ answerAt n week subframe b
 unfolding answerAt
-answer-less n week subframe ne = rw (ne-eqb n 15 ne)
+answer-less n week subframe b ne = rw (ne-eqb n 15 ne)
 
-pub answer-completes : (week subframe : ℕ) {r : PageTaken} → r ≡ Completes → gives (week ∷ 30 * subframe ∷ []) ≡ answerOf r week subframe
-answer-completes week subframe e = rw e
+-- a pair comes out
+module _ (week subframe : ℕ) {a b : Bool} (e : a ≡ b) where
+  pub out-silent : a ≡ true → silent week subframe ≡ outOf b week subframe
+  out-silent h = rw (← e, h)
+
+  pub out-complete : a ≡ false → complete week subframe ≡ outOf b week subframe
+  out-complete h = rw (← e, h)
+
+pub answer-last : (week subframe : ℕ) (b : Bool) {r : PageTaken} {a : Answer} → r ≡ Last → a ≡ outOf b week subframe → a ≡ answerOf r week subframe b
+answer-last week subframe b e h = rw e h
 
 module _ (s : State) (bytes : List ℕ) (i w : ℕ) where
   pub used-is :
       {h m : List ℕ} {a : Answer} {n : ℕ} → h ≡ set (s .hkroot) (15 * i + w) (getD bytes 0 0) → m ≡ put4 (s .mack) (60 * i + 4 * w) bytes → n ≡ w + 1
-      → a ≡ answerAt n (s .week) (s .subframe)
+      → a ≡ answerAt n (s .week) (s .subframe) (isSilent h m i)
       → _≡_ {A = Fed}
       (record { state = record { week = s .week; subframe = s .subframe; counts = set (s .counts) i n; hkroot = h; mack = m }; answer = a })
       (used s bytes i w)
   unfolding used
-  used-is eh em en ea = rw (eh, em, ea, en)
+  used-is eh em en ea = rw (ea, en, eh, em)
 
   pub offered-not : eqb w (getD (s .counts) i 0) ≡ false → _≡_ {A = Fed} (record { state = s; answer = nothing }) (offered s bytes i w)
   unfolding offered
@@ -253,7 +311,8 @@ module _ (counts h m bytes : List ℕ) (i w : ℕ) where
   module _ {x y : List ℕ} {n : ℕ} (same : getD counts i 0 ≡ w) (en : n ≡ w + 1) (ex : x ≡ set h (15 * i + w) (getD bytes 0 0))
       (ey : y ≡ put4 m (4 * (15 * i + w)) bytes) where
     next :
-        (r : PageTaken) → ((week subframe : ℕ) → answerOf r week subframe ≡ answerAt n week subframe) → usedOf r ≡ true
+        (r : PageTaken)
+        → ((week subframe : ℕ) → answerOf r week subframe (isSilent x y i) ≡ answerAt n week subframe (isSilent x y i)) → usedOf r ≡ true
         → Offered counts h m bytes i w r (set counts i n) x y
     next r ea u =
         let e : eqb w (getD counts i 0) ≡ true = eq-eqb w (getD counts i 0) (sym same) in
@@ -266,10 +325,10 @@ module _ (counts h m bytes : List ℕ) (i w : ℕ) where
         }
 
     pub next-used : (n ≡ 15 → ⊥) → Offered counts h m bytes i w Used (set counts i n) x y
-    next-used ne = next Used (λ week subframe. answer-less n week subframe ne) refl
+    next-used ne = next Used (λ week subframe. answer-less n week subframe (isSilent x y i) ne) refl
 
-    pub next-last : n ≡ 15 → Offered counts h m bytes i w Completes (set counts i n) x y
-    next-last e = next Completes (λ week subframe. answer-15 n week subframe e) refl
+    pub next-last : n ≡ 15 → Offered counts h m bytes i w Last (set counts i n) x y
+    next-last e = next Last (λ week subframe. answer-15 n week subframe (isSilent x y i) e) refl
 
 -- A call.
 module _ (s : State) (p : Page) {q : ℕ} (e : q ≡ refusal (feedChecks s p)) where
@@ -305,8 +364,8 @@ module _ (week subframe : ℕ) (counts h m : List ℕ) (e : Entry) (bytes : List
         is-used = o .is-used ∙ ap (λ (s : State). eqb (wordOf (e .time)) (getD (s .counts) (e .satellite - 1) 0)) (er h m);
       }
 
-pub fed-whole : {s : State} {p : Page} {r : PageTaken} {cs h m : List ℕ} {a : Answer} → PageFed s p r cs h m → a ≡ answerOf r (p .week) (subframeOf (p .time))
-    → _≡_ {A = Fed} (record { state = stateOf (p .week) (subframeOf (p .time)) cs h m; answer = a }) (feed s p)
+pub fed-whole : {s : State} {p : Page} {r : PageTaken} {cs h m : List ℕ} {a : Answer} → PageFed s p r cs h m
+    → a ≡ answerOf r (p .week) (subframeOf (p .time)) (isSilent h m (p .satellite - 1)) → _≡_ {A = Fed} (record { state = stateOf (p .week) (subframeOf (p .time)) cs h m; answer = a }) (feed s p)
 fed-whole {s} {p} {r} {cs} {h} {m} f e = ap (λ (a : Answer). record { state = stateOf (p .week) (subframeOf (p .time)) cs h m; answer = a }) e ∙ f .fed
 
 -- Whether a page is used, asked of the record.

@@ -3,6 +3,7 @@
 use Prim.Native.Nat.{ℕ, suc, _+_, _-_, _*_, _%_, _≤_}
 use native.Mathlib.Omega.{arith}
 use native.Mathlib.Decide.{ℕ-discrete}
+use mathlib.Core.Logic.{⊎-elim}
 use mathlib.Core.Path.{_≡_, refl, sym, ap, _∙_, subst, subst⁻¹}
 use mathlib.Core.List.{List, [], _∷_, _++_, append-nil, append-assoc}
 use mathlib.Core.Bool.{Bool, true, false, cond}
@@ -12,6 +13,7 @@ use Rattle.layouts.specs.Answer.{Answer, refused, nothing, gives, shown, refusa
 use Rattle.layouts.specs.Answer.{Copied, copied}
 use Rattle.layouts.specs.Gst.{svnChecks}
 use Rattle.subframes.specs.Subframe.{State, new, Page, wordOf, subframeOf, Fed, small, recordChecks, viewChecks, feedChecks, changed, answerAt, used}
+use Rattle.subframes.specs.Subframe.{zeros, isSilent, outOf}
 use Rattle.subframes.specs.Subframe.{offered, feed, view}
 use Rattle.subframes.specs.Trace.{entries, FedMany, traceChecks, feedAll}
 use Rattle.subframes.specs.SubframePromises.{state, meaning-subframe, meaning-shown, outcome, sizeOf, bufferOf, FeedSubframe}
@@ -19,11 +21,11 @@ use Rattle.subframes.specs.TracePromises.{outcome-all, FeedAll}
 use Rattle.subframes.specs.SubframeRecovery.{isAdmitted, before, run, after, noPage, hasWord, Words, ComesOut, Alike, Viewed, Recovers}
 use Rattle.subframes.specs.SubframeHistory.{Call, one, many, Misfit, History, begun, called, misfit, looked, ShowsPair, ShowsNone, FeedRecovers}
 use Rattle.subframes.specs.SubframeHistory.{FeedAllRecovers, MisfitRefused, CodeRecovers, AnyPages}
-use Rattle.subframes.specs.SubframeHistory.{wordPage, wordsFrom, shortPage, WordsExample, RefusedCalls, SmallestCase}
+use Rattle.subframes.specs.SubframeHistory.{wordPage, wordsFrom, lastPage, shortPage, WordsExample, RefusedCalls, SmallestCase}
 use Rattle.runs.proofs.Rising.{reaches}
 use Rattle.subframes.specs.declared.subframe.CollectSubframe.{CollectSubframe}
 use Rattle.subframes.specs.declared.subframe.SubframeAnswer.{SubframeAnswer}
-use Rattle.subframes.specs.declared.subframe.SubframeAnswer.the-variants.{Refused, Nothing, Complete}
+use Rattle.subframes.specs.declared.subframe.SubframeAnswer.the-variants.{Refused, Nothing, Complete, Silent}
 use Rattle.subframes.specs.declared.subframe.SubframeFed.{SubframeFed}
 use Rattle.subframes.specs.declared.subframe.SubframeShown.{SubframeShown}
 use Rattle.subframes.specs.declared.subframe.SubframeShown.the-variants.{Shown, Nothing as NothingShown, Refused as NotShown}
@@ -33,7 +35,7 @@ use Rattle.subframes.proofs.Entries.{not-whole, whole, all-refused}
 use Rattle.subframes.proofs.SubframeSound.{Sound, sound-fed, sound-admitted, sound-passes}
 use Rattle.subframes.proofs.SubframeRecovery.{subframes-recover, subframes-show}
 use Rattle.subframes.proofs.TraceSteps.{after-more, after-next, Walked, walked-all}
-use Rattle.subframes.proofs.SubframeUnique.{back-subframe, undo-subframe, back-state, view-subframe-shown, view-subframe, hkroot-message}
+use Rattle.subframes.proofs.SubframeUnique.{back-subframe, undo-subframe, back-state, view-subframe-shown, hkroot-message}
 
 -- Lent bytes of other lengths: every call is refused with 1.
 misfit-record : (s : State) → Misfit (s .hkroot) (s .mack) → 1 ≡ refusal (recordChecks s)
@@ -237,10 +239,13 @@ feed-recovers {c} {h = h} {m = m} {ps = ps} k p r h′ m′ e =
           (answer-back (r .answer) (q .answer) (z .answer), z);
     }
 
-not-complete : (a : SubframeAnswer) → ((week time : ℕ) → a ≡ Complete week time → ⊥) → (l : List ℕ) → meaning-subframe a ≡ gives l → ⊥
-not-complete (Refused n) ne l e = let z : _≡_ {A = ℕ} 0 1 = cc in absurd (omega arith)
-not-complete Nothing ne l e = let z : _≡_ {A = ℕ} 0 1 = cc in absurd (omega arith)
-not-complete (Complete w t) ne l e = ne w t refl
+not-complete :
+    (a : SubframeAnswer) → ((week time : ℕ) → a ≡ Complete week time → ⊥) → ((week time : ℕ) → a ≡ Silent week time → ⊥) → (l : List ℕ)
+    → meaning-subframe a ≡ gives l → ⊥
+not-complete (Refused n) ne ns l e = let z : _≡_ {A = ℕ} 0 1 = cc in absurd (omega arith)
+not-complete Nothing ne ns l e = let z : _≡_ {A = ℕ} 0 1 = cc in absurd (omega arith)
+not-complete (Complete w t) ne ns l e = ne w t refl
+not-complete (Silent w t) ne ns l e = ns w t refl
 
 not-admitted : (s : State) (r : List Page) (p : Page) (f : Fed) → Recovers s r p f → (q : ℕ) → f .answer ≡ refused q → isAdmitted p ≡ false
 not-admitted s r p f w q e = go (isAdmitted p) refl
@@ -253,10 +258,10 @@ not-admitted s r p f w q e = go (isAdmitted p) refl
         absurd (omega arith)
       where
         not-out : ComesOut (f .answer) p → ⊥
-        not-out o =
-            let x : refused q ≡ gives (p .week ∷ 30 * subframeOf (p .time) ∷ []) = sym e ∙ o in
-            let z : _≡_ {A = ℕ} 0 1 = cc in
-            absurd (omega arith)
+        not-out o = ⊎-elim (λ y. no-list (sym e ∙ y)) (λ y. no-list (sym e ∙ y)) o
+          where
+            no-list : {l : List ℕ} → refused q ≡ gives l → ⊥
+            no-list x = let z : _≡_ {A = ℕ} 0 1 = cc in absurd (omega arith)
 
 whole-passes : (s : State) (trace : List ℕ) → Sound s → length trace % 12 ≡ 0 → refusal (traceChecks s trace) ≡ 0
 whole-passes s trace d l = sym (whole s trace l (sound-admitted s d))
@@ -287,8 +292,9 @@ module _ {c : CollectSubframe} {h m : List ℕ} {ps : List Page} (j : History c 
   at : (k : ℕ) → Reached (after s (take k es)) (ps ++ take k es)
   at k = reached-more (reached j) (take k es)
 
-  not-full : ((week time : ℕ) → r .answer ≡ Complete week time → ⊥) → (l : List ℕ) → feedAll s trace .answer ≡ gives l → ⊥
-  not-full ne l g = not-complete (r .answer) ne l (ap (λ (f : FedMany). f .answer) e ∙ g)
+  not-full : ((week time : ℕ) → r .answer ≡ Complete week time → ⊥) → ((week time : ℕ) → r .answer ≡ Silent week time → ⊥) → (l : List ℕ)
+      → feedAll s trace .answer ≡ gives l → ⊥
+  not-full ne ns l g = not-complete (r .answer) ne ns l (ap (λ (f : FedMany). f .answer) e ∙ g)
 
   pub feed-all-recovers : FeedAllRecovers c h m ps trace r h′ m′
   feed-all-recovers =
@@ -306,10 +312,10 @@ module _ {c : CollectSubframe} {h m : List ℕ} {ps : List Page} (j : History c 
         none = λ z.
             let q : state (r .collector) h′ m′ ≡ state c h m = call-feeds (many trace r h′ m′ e) ∙ ap (λ (n : ℕ). after s (take n es)) z in
             (ap back-state q, ap (λ (t : State). t .hkroot) q, ap (λ (t : State). t .mack) q);
-        stops = λ l few ne.
+        stops = λ l few ne ns.
             let n = w .more in
             let p = getD es n noPage in
-            let x = w .stops (whole-passed j trace l) (omega (arith, few, same)) (not-full ne) in
+            let x = w .stops (whole-passed j trace l) (omega (arith, few, same)) (not-full ne ns) in
             let recovers = reached-recovers (at n) p (given n) refl in
             ap (λ (n : ℕ). isAdmitted (getD es n noPage)) same ∙ not-admitted (after s (take n es)) (run (ps ++ take n es)) p (given n) recovers (x .0) (x .1);
         not-whole = λ l.
@@ -331,7 +337,7 @@ code-recovers =
     }
 
 -- Every answer of the definition is one of the code's.
-abbrev Coded : Answer → Type 0
+abbrev pub Coded : Answer → Type 0
 Coded a = meaning-subframe (back-subframe a) ≡ a
 
 either-coded : (b : Bool) (f g : Fed) → Coded (f .answer) → Coded (g .answer) → Coded (cond b f g .answer)
@@ -341,13 +347,16 @@ either-coded false f g x y = y
 offered-coded : (t : State) (bytes : List ℕ) (i word : ℕ) → Coded (offered t bytes i word .answer)
 unfolding offered used answerAt
 offered-coded t bytes i word =
-    either-coded (eqb word (getD (t .counts) i 0)) (used t bytes i word) (record { state = t; answer = nothing }) (go (eqb (word + 1) 15)) refl
+    let then = used t bytes i word .state in
+    either-coded (eqb word (getD (t .counts) i 0)) (used t bytes i word) (record { state = t; answer = nothing })
+    (go (eqb (word + 1) 15) (isSilent (then .hkroot) (then .mack) i)) refl
   where
-    go : (b : Bool) → Coded (cond b (gives (t .week ∷ 30 * t .subframe ∷ [])) nothing)
-    go true = refl
-    go false = refl
+    go : (a b : Bool) → Coded (cond a (outOf b (t .week) (t .subframe)) nothing)
+    go true true = refl
+    go true false = refl
+    go false b = refl
 
-fed-coded : (t : State) (p : Page) → Coded (feed t p .answer)
+pub fed-coded : (t : State) (p : Page) → Coded (feed t p .answer)
 unfolding feed
 fed-coded t p =
     let u = changed t (p .week) (subframeOf (p .time)) in
@@ -385,9 +394,14 @@ refused-calls = record { four-bytes = refl; satellite-37 = refl; thirteen-bytes 
 
 -- Words 0 to 6, a call that lends 539 bytes, words 7 to 14.
 fourteen-then : (f : Fed) → Alike f (feed (after (new (replicate 540 0) (replicate 2160 0)) (before (run (wordsFrom 0 14)) (wordPage 14))) (wordPage 14))
-    → f .answer ≡ gives (1200 ∷ 60 ∷ [])
-unfolding feed offered used changed answerAt refusal small
+    → f .answer ≡ gives (1200 ∷ 60 ∷ 1 ∷ [])
+unfolding feed offered used changed answerAt isSilent zeros refusal small
 fourteen-then f a = a .answer
+
+last-then : (f : Fed) → Alike f (feed (after (new (replicate 540 0) (replicate 2160 0)) (before (run (wordsFrom 0 14)) lastPage)) lastPage)
+    → f .answer ≡ gives (1200 ∷ 60 ∷ [])
+unfolding feed offered used changed answerAt isSilent zeros refusal small
+last-then f a = a .answer
 
 short-then : (f : Fed)
     → Alike f
@@ -400,6 +414,10 @@ fifteenth : isAdmitted (wordPage 14) ≡ true
 unfolding refusal
 fifteenth = refl
 
+fifteenth-1 : isAdmitted lastPage ≡ true
+unfolding refusal
+fifteenth-1 = refl
+
 pub smallest-case : SmallestCase
 smallest-case =
     record {
@@ -408,8 +426,12 @@ smallest-case =
           (misfit-call w (one p r x′ m′ e) .answer, misfit (λ a b. h) (λ a b. b) k w (one p r x′ m′ e));
       comes-out = λ k r h′ m′ e.
           let f = feed-recovers k (wordPage 14) r h′ m′ e in
-          answer-back (r .answer) (Complete 1200 60)
+          answer-back (r .answer) (Silent 1200 60)
           (fourteen-then (outcome r h′ m′) (f .recovers .like-new (replicate 540 0) (replicate 2160 0) refl refl fifteenth));
+      completes = λ k r h′ m′ e.
+          let f = feed-recovers k lastPage r h′ m′ e in
+          answer-back (r .answer) (Complete 1200 60)
+          (last-then (outcome r h′ m′) (f .recovers .like-new (replicate 540 0) (replicate 2160 0) refl refl fifteenth-1));
       stays-out = λ k r h′ m′ e.
           let f = feed-recovers k (wordPage 14) r h′ m′ e in
           answer-back (r .answer) Nothing

@@ -4,7 +4,7 @@ use Prim.Native.Nat.{ℕ, zero, suc, _+_, _-_, _*_, _≤_, _<_}
 use native.Mathlib.Omega.{arith}
 use native.Mathlib.Decide.{ℕ-discrete}
 use mathlib.Core.Path.{_≡_, refl, sym, ap, _∙_, subst, subst⁻¹}
-use mathlib.Core.Logic.{_↔_}
+use mathlib.Core.Logic.{_↔_, _⊎_, ⊎-elim, inl, inr}
 use mathlib.Core.List.{List, [], _∷_, _++_}
 use mathlib.Core.Bool.{Bool, true, false, cond, not, _&&_}
 use lib.ListN.{length, getD, take, drop, replicate, length-drop, getD-replicate}
@@ -14,14 +14,16 @@ use borrow.Author.Tests.{le-leb, le-ltb, ne-eqb, eqb-true, eqb-false, ltb-false,
 use Rattle.layouts.specs.Answer.{Answer, refused, nothing, gives, shown, refusal}
 use Rattle.layouts.specs.Gst.{svnChecks}
 use Rattle.layouts.proofs.Answers.{none-fails}
-use Rattle.subframes.specs.Subframe.{State, new, Page, subframeOf, wordOf, Fed, small, viewChecks, feedChecks, fresh, changed, offered, feed, view}
+use Rattle.subframes.specs.Subframe.{State, new, Page, subframeOf, wordOf, Fed, small, viewChecks, feedChecks, fresh, changed, feed, view}
+use Rattle.subframes.specs.Subframe.{offered, zeros, isSilent, complete, silent, outOf}
 use Rattle.runs.specs.Runs.{goesOn, runFrom}
 use Rattle.subframes.specs.SubframeRecovery.{callChecks, isAdmitted, sameSubframe, before, grown, run, after, hasWord, noPage, Words}
-use Rattle.subframes.specs.SubframeRecovery.{hkrootOf, mackOf, message, Built, ComesOut, Alike, Viewed, SubframesRecover, SubframesShow}
+use Rattle.subframes.specs.SubframeRecovery.{hkrootOf, mackOf, message, Built, ComesOut, areZeros, Alike, Viewed, SubframesRecover, SubframesShow}
 use Rattle.runs.proofs.Basics.{and-true, part-is}
 use Rattle.subframes.proofs.Pages.{feed-refused, feed-admitted}
 use Rattle.subframes.proofs.SubframeSound.{Sound, sound-passes}
-use Rattle.runs.proofs.Rising.{taken-chain, shorter, earliest, reaches, chosen-kept}
+use Rattle.runs.specs.Rising.{Earliest}
+use Rattle.runs.proofs.Rising.{taken, taken-chain, shorter, earliest, reaches, chosen-kept}
 use Rattle.runs.proofs.Runs.{goes-on, before-twice, run-before, run-from, kept-by-all, firstFrom, as-the-first}
 use Rattle.subframes.proofs.SubframeRun.{words, pageOf, pairAt, words-few, words-up, Of, Core, Step, offered-step}
 
@@ -80,6 +82,50 @@ module _ (n : ℕ) (s : State) (r : List Page) (o : Of n s r) (some : 1 ≤ n) (
           hkroot-is = hkroot-message;
           mack-is = mack-message;
         }
+
+-- The same pages make the same messages.
+hkroot-same : (f g : ℕ → Page) (m : ℕ) → ((k : ℕ) → k < m → f k ≡ g k) → hkrootOf f m ≡ hkrootOf g m
+unfolding hkrootOf
+hkroot-same f g zero h = refl
+hkroot-same f g (suc m) h =
+    ap (λ (x : List ℕ). x ++ take 1 (f m .bytes)) (hkroot-same f g m (λ k l. h k (omega arith)))
+    ∙ ap (λ (q : Page). hkrootOf g m ++ take 1 (q .bytes)) (h m (omega arith))
+
+mack-same : (f g : ℕ → Page) (m : ℕ) → ((k : ℕ) → k < m → f k ≡ g k) → mackOf f m ≡ mackOf g m
+unfolding mackOf
+mack-same f g zero h = refl
+mack-same f g (suc m) h =
+    ap (λ (x : List ℕ). x ++ drop 1 (f m .bytes)) (mack-same f g m (λ k l. h k (omega arith)))
+    ∙ ap (λ (q : Page). mackOf g m ++ drop 1 (q .bytes)) (h m (omega arith))
+
+-- Whether the pair is zeros, by the pages that were taken of the run: in memory, and by any choice that is the earliest.
+abbrev zerosOf : (ℕ → Page) → Bool
+zerosOf f = zeros (hkrootOf f 15) && zeros (mackOf f 15)
+
+core-silent :
+    (week subframe : ℕ) (s : State) (r : List Page) → Core week subframe s r → (n : ℕ) → 1 ≤ n → n ≤ 36 → 15 ≤ words n r
+    → isSilent (s .hkroot) (s .mack) (n - 1) ≡ zerosOf (pageOf n r)
+unfolding isSilent
+core-silent week subframe s r k n some few all =
+    let o = k .of n some few in
+    ap (λ (x : List ℕ). zeros x && zeros (message 60 n (s .mack))) (hkroot-message n s r o some few (k .h540) (k .m2160) all)
+    ∙ ap (λ (x : List ℕ). zeros (hkrootOf (pageOf n r) 15) && zeros x) (mack-message n s r o some few (k .h540) (k .m2160) all)
+
+earliest-zeros :
+    (n : ℕ) (r : List Page) (all : 15 ≤ words n r) (q : Words n r) → Earliest (hasWord n) noPage q → zerosOf (pageOf n r) ≡ areZeros r (q .at)
+earliest-zeros n r all q first =
+    let same = hkroot-same (pageOf n r) (λ k. getD r (q .at k) noPage) 15 page in
+    ap (λ (x : List ℕ). zeros x && zeros (mackOf (pageOf n r) 15)) same
+    ∙ ap (λ (x : List ℕ). zeros (hkrootOf (λ k. getD r (q .at k) noPage) 15) && zeros x) (mack-same (pageOf n r) (λ k. getD r (q .at k) noPage) 15 page)
+  where
+    taken-first : Words n r
+    taken-first = shorter (hasWord n) noPage 15 all (taken-chain (hasWord n) noPage r 0)
+
+    page : (k : ℕ) → k < 15 → pageOf n r k ≡ getD r (q .at k) noPage
+    page k l =
+        let here : taken (hasWord n) 0 r k ≡ q .at k =
+        omega (arith, earliest (hasWord n) noPage r 0 15 q k (omega arith) l, first taken-first k (omega arith) l) in
+        ap (λ (j : ℕ). getD r j noPage) here
 
 -- What is refused at a record that is not.
 view-number : (s : State) → Sound s → (n : ℕ) → refusal (viewChecks s n) ≡ refusal (svnChecks n)
@@ -297,6 +343,22 @@ module _ (s : State) (r : List Page) (w : Holds s r) (p : Page) where
     fed-sound : Sound (feed s p .state)
     fed-sound = core-sound (p .week) (subframeOf (p .time)) (feed s p .state) (grown r p) fed-core (fine .in-weeks) (omega (arith, fine .in-week))
 
+    -- the answer, by the run alone
+    fed-answer :
+        feed s p .answer
+        ≡ pairAt (p .week) (subframeOf (p .time)) (p .satellite) (before r p) p (zerosOf (pageOf (p .satellite) (before r p ++ (p ∷ []))))
+    fed-answer = fed-step .answer ∙ go (leb 15 (words (p .satellite) (before r p ++ (p ∷ [])))) refl (leb 15 (words (p .satellite) (before r p)))
+      where
+        go : (a : Bool) → leb 15 (words (p .satellite) (before r p ++ (p ∷ []))) ≡ a → (b : Bool)
+            → cond (a && not b) (outOf (isSilent (feed s p .state .hkroot) (feed s p .state .mack) (p .satellite - 1)) (p .week) (subframeOf (p .time))) nothing
+            ≡ cond (a && not b) (outOf (zerosOf (pageOf (p .satellite) (before r p ++ (p ∷ [])))) (p .week) (subframeOf (p .time))) nothing
+        go true e true = refl
+        go true e false =
+            ap (λ (x : Bool). outOf x (p .week) (subframeOf (p .time)))
+            (core-silent (p .week) (subframeOf (p .time)) (feed s p .state) (before r p ++ (p ∷ [])) (fed-step .core) (p .satellite) (fine .some) (fine .few)
+            (leb-true 15 (words (p .satellite) (before r p ++ (p ∷ []))) e))
+        go false e b = refl
+
     goes-with : (q : Page) → goesOn isAdmitted sameSubframe (grown r p) q ≡ sameSubframe p q
     goes-with q = ap (λ (l : List Page). goesOn isAdmitted sameSubframe l q) grown-is ∙ goes-on isAdmitted sameSubframe (before r p) p q
 
@@ -336,9 +398,9 @@ same-run s t r q p a b e h =
     let ls = fed-sound s r a p e in
     let lt = fed-sound t q b p e in
     record {
-      answer = fed-step s r a p e .answer
-          ∙ ap (λ (l : List Page). pairAt (p .week) (subframeOf (p .time)) (p .satellite) l p) h
-          ∙ sym (fed-step t q b p e .answer);
+      answer = fed-answer s r a p e
+          ∙ ap (λ (l : List Page). pairAt (p .week) (subframeOf (p .time)) (p .satellite) l p (zerosOf (pageOf (p .satellite) (l ++ (p ∷ []))))) h
+          ∙ sym (fed-answer t q b p e);
       view-is = λ size n. core-view (p .week) (subframeOf (p .time)) (feed s p .state) (grown r p) ks ls size n
           ∙ ap (λ (l : List Page). viewOf l size n) g
           ∙ sym (core-view (p .week) (subframeOf (p .time)) (feed t p .state) (grown q p) kt lt size n);
@@ -358,21 +420,34 @@ like-new-at s r w own p h m lh lm e =
     (sym (ap (λ (q : List Page). before q p) (run-before isAdmitted sameSubframe r p own) ∙ before-twice isAdmitted sameSubframe r p))
 
 -- When the pair comes out.
-came-out : (a b : Bool) (x : Answer) (l : List ℕ) → x ≡ cond (a && not b) (gives l) nothing → (x ≡ gives l) ↔ ((a ≡ true) × (b ≡ false))
-came-out true false x l e = (λ z. (refl, refl), λ z. e)
-came-out true true x l e = (
-  λ z. let q : nothing ≡ gives l = sym e ∙ z in let z : _≡_ {A = ℕ} 0 1 = cc in absurd (omega arith),
+abbrev OneOf : Answer → ℕ → ℕ → Type 0
+OneOf x w t = (x ≡ complete w t) ⊎ (x ≡ silent w t)
+
+out-as : (c : Bool) (x : Answer) (w t : ℕ) → x ≡ outOf c w t → OneOf x w t
+out-as true x w t e = inr e
+out-as false x w t e = inl e
+
+none-out : (x : Answer) (w t : ℕ) → x ≡ nothing → OneOf x w t → ⊥
+none-out x w t e z = ⊎-elim (λ y. gives-none (sym e ∙ y)) (λ y. gives-none (sym e ∙ y)) z
+  where
+    gives-none : {l : List ℕ} → nothing ≡ gives l → ⊥
+    gives-none q = let y : _≡_ {A = ℕ} 0 1 = cc in absurd (omega arith)
+
+came-out : (a b c : Bool) (x : Answer) (w t : ℕ) → x ≡ cond (a && not b) (outOf c w t) nothing → OneOf x w t ↔ ((a ≡ true) × (b ≡ false))
+came-out true false c x w t e = (λ z. (refl, refl), λ z. out-as c x w t e)
+came-out true true c x w t e = (
+  λ z. absurd (none-out x w t e z),
   λ z. let q : true ≡ false = z .1 in let y : _≡_ {A = ℕ} 0 1 = cc in absurd (omega arith),
 )
-came-out false b x l e = (
-  λ z. let q : nothing ≡ gives l = sym e ∙ z in let z : _≡_ {A = ℕ} 0 1 = cc in absurd (omega arith),
+came-out false b c x w t e = (
+  λ z. absurd (none-out x w t e z),
   λ z. let q : false ≡ true = z .0 in let y : _≡_ {A = ℕ} 0 1 = cc in absurd (omega arith),
 )
 
-stayed-in : (a b : Bool) (x : Answer) (l : List ℕ) → x ≡ cond (a && not b) (gives l) nothing → (x ≡ gives l → ⊥) → x ≡ nothing
-stayed-in true false x l e ne = absurd (ne e)
-stayed-in true true x l e ne = e
-stayed-in false b x l e ne = e
+stayed-in : (a b c : Bool) (x : Answer) (w t : ℕ) → x ≡ cond (a && not b) (outOf c w t) nothing → (OneOf x w t → ⊥) → x ≡ nothing
+stayed-in true false c x w t e ne = absurd (ne (out-as c x w t e))
+stayed-in true true c x w t e ne = e
+stayed-in false b c x w t e ne = e
 
 module _ (s : State) (r : List Page) (w : Holds s r) (p : Page) (e : isAdmitted p ≡ true) where
   abbrev n : ℕ
@@ -380,11 +455,15 @@ module _ (s : State) (r : List Page) (w : Holds s r) (p : Page) (e : isAdmitted 
 
   out-now : ComesOut (feed s p .answer) p ↔ ((leb 15 (words n (before r p ++ (p ∷ []))) ≡ true) × (leb 15 (words n (before r p)) ≡ false))
   out-now =
-      came-out (leb 15 (words n (before r p ++ (p ∷ [])))) (leb 15 (words n (before r p))) (feed s p .answer)
-      (p .week ∷ 30 * subframeOf (p .time) ∷ []) (fed-step s r w p e .answer)
+      came-out (leb 15 (words n (before r p ++ (p ∷ [])))) (leb 15 (words n (before r p))) (zerosOf (pageOf n (before r p ++ (p ∷ []))))
+      (feed s p .answer) (p .week) (subframeOf (p .time)) (fed-answer s r w p e)
 
   all-there : leb 15 (words n (before r p ++ (p ∷ []))) ≡ true → 15 ≤ words n (grown r p)
   all-there h = rw (grown-is s r w p e) (leb-true 15 (words n (before r p ++ (p ∷ []))) h)
+
+  not-yet : (b : Bool) → leb 15 (words n (before r p)) ≡ b → (Words n (before r p) → ⊥) → b ≡ false
+  not-yet true h none = absurd (none (reaches (hasWord n) noPage (before r p) 0 15 .0 (leb-true 15 (words n (before r p)) h)))
+  not-yet false h none = refl
 
   comes-out : ComesOut (feed s p .answer) p ↔ (Words n (grown r p) × (Words n (before r p) → ⊥))
   comes-out = (
@@ -397,10 +476,22 @@ module _ (s : State) (r : List Page) (w : Holds s r) (p : Page) (e : isAdmitted 
       not-yet (leb 15 (words n (before r p))) refl (z .1),
     ),
   )
+
+  said-then : (q : Words n (grown r p)) → Earliest (hasWord n) noPage q → (Words n (before r p) → ⊥)
+      → feed s p .answer ≡ outOf (areZeros (grown r p) (q .at)) (p .week) (subframeOf (p .time))
+  said-then q first none =
+      let all : 15 ≤ words n (grown r p) = reaches (hasWord n) noPage (grown r p) 0 15 .1 q in
+      let now : leb 15 (words n (before r p ++ (p ∷ []))) ≡ true =
+      le-leb 15 (words n (before r p ++ (p ∷ []))) (rw (grown-is s r w p e) at all) in
+      let past = not-yet (leb 15 (words n (before r p))) refl none in
+      fed-answer s r w p e
+      ∙ ap (λ (x : Bool). cond (x && not (leb 15 (words n (before r p)))) (out (before r p ++ (p ∷ []))) nothing) now
+      ∙ ap (λ (x : Bool). cond (not x) (out (before r p ++ (p ∷ []))) nothing) past
+      ∙ ap out (sym (grown-is s r w p e))
+      ∙ ap (λ (x : Bool). outOf x (p .week) (subframeOf (p .time))) (earliest-zeros n (grown r p) all q first)
     where
-      not-yet : (b : Bool) → leb 15 (words n (before r p)) ≡ b → (Words n (before r p) → ⊥) → b ≡ false
-      not-yet true h none = absurd (none (reaches (hasWord n) noPage (before r p) 0 15 .0 (leb-true 15 (words n (before r p)) h)))
-      not-yet false h none = refl
+      out : List Page → Answer
+      out l = outOf (zerosOf (pageOf n l)) (p .week) (subframeOf (p .time))
 
   built-then : ComesOut (feed s p .answer) p → Built (feed s p .state) n (grown r p)
   built-then z =
@@ -409,20 +500,6 @@ module _ (s : State) (r : List Page) (w : Holds s r) (p : Page) (e : isAdmitted 
       built n (feed s p .state) (grown r p) (k .of n (f .some) (f .few)) (f .some) (f .few) (k .h540) (k .m2160) (all-there (out-now .0 z .0))
 
 -- What was shown stays.
-hkroot-same : (f g : ℕ → Page) (m : ℕ) → ((k : ℕ) → k < m → f k ≡ g k) → hkrootOf f m ≡ hkrootOf g m
-unfolding hkrootOf
-hkroot-same f g zero h = refl
-hkroot-same f g (suc m) h =
-    ap (λ (x : List ℕ). x ++ take 1 (f m .bytes)) (hkroot-same f g m (λ k l. h k (omega arith)))
-    ∙ ap (λ (q : Page). hkrootOf g m ++ take 1 (q .bytes)) (h m (omega arith))
-
-mack-same : (f g : ℕ → Page) (m : ℕ) → ((k : ℕ) → k < m → f k ≡ g k) → mackOf f m ≡ mackOf g m
-unfolding mackOf
-mack-same f g zero h = refl
-mack-same f g (suc m) h =
-    ap (λ (x : List ℕ). x ++ drop 1 (f m .bytes)) (mack-same f g m (λ k l. h k (omega arith)))
-    ∙ ap (λ (q : Page). mackOf g m ++ drop 1 (q .bytes)) (h m (omega arith))
-
 stays : (s : State) (r : List Page) → Holds s r → (p : Page) → goesOn isAdmitted sameSubframe r p ≡ true → (n : ℕ) → 1 ≤ n → n ≤ 36 → Words n r
     → (message 15 n (feed s p .state .hkroot) ≡ message 15 n (s .hkroot)) × (message 60 n (feed s p .state .mack) ≡ message 60 n (s .mack))
 stays s r w p on n some few all = go (isAdmitted p) refl
@@ -465,8 +542,10 @@ subframes-recover h m lh lm ps p =
       exactly-when = λ e. comes-out s (run ps) w p e;
       else-nothing =
           λ e ne. stayed-in (leb 15 (words (p .satellite) (before (run ps) p ++ (p ∷ [])))) (leb 15 (words (p .satellite) (before (run ps) p)))
-          (feed s p .answer) (p .week ∷ 30 * subframeOf (p .time) ∷ []) (fed-step s (run ps) w p e .answer) ne;
+          (zerosOf (pageOf (p .satellite) (before (run ps) p ++ (p ∷ [])))) (feed s p .answer) (p .week) (subframeOf (p .time))
+          (fed-answer s (run ps) w p e) ne;
       earliest = λ e z. built-then s (run ps) w p e z;
+      said = λ e q first none. said-then s (run ps) w p e q first none;
       viewed =
           λ e n some few. core-viewed (p .week) (subframeOf (p .time)) (feed s p .state) (grown (run ps) p) (fed-core s (run ps) w p e)
           (fed-sound s (run ps) w p e) n some few;

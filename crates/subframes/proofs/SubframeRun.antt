@@ -1,6 +1,6 @@
 -- What one page does to a collector that is at its run: the counts are how many words the run's pages were taken for, and the bytes are theirs.
 -- Assumes nothing.
-use Prim.Native.Nat.{ℕ, zero, suc, _+_, _-_, _*_, _≤_, _<_}
+use Prim.Native.Nat.{ℕ, suc, _+_, _-_, _*_, _≤_, _<_}
 use native.Mathlib.Omega.{arith}
 use native.Mathlib.Decide.{ℕ-discrete}
 use native.Mathlib.Nat.{add-zero}
@@ -10,9 +10,9 @@ use mathlib.Core.Bool.{Bool, true, false, cond, not, _&&_}
 use lib.ListN.{length, getD, set, length-set}
 use lib.Seq.{getD-set-same, getD-set-other}
 use lib.Dec.{leb, eqb}
-use borrow.Author.Tests.{le-leb, lt-leb, eq-eqb, ne-eqb, eqb-true}
-use Rattle.layouts.specs.Answer.{Answer, nothing, gives}
-use Rattle.subframes.specs.Subframe.{State, Page, Fed, wordOf, small, put4, answerAt, used, offered}
+use borrow.Author.Tests.{lt-leb, eq-eqb, ne-eqb, eqb-true}
+use Rattle.layouts.specs.Answer.{Answer, nothing}
+use Rattle.subframes.specs.Subframe.{State, Page, Fed, wordOf, small, put4, isSilent, outOf, answerAt, used, offered}
 use Rattle.subframes.specs.SubframeRecovery.{hasWord, noPage}
 use Rattle.runs.proofs.Basics.{and-true}
 use Rattle.subframes.proofs.SubframeSound.{small-set}
@@ -25,9 +25,9 @@ words n r = count (hasWord n) 0 r
 abbrev pub pageOf : ℕ → List Page → ℕ → Page
 pageOf n r k = chosen (hasWord n) noPage 0 r k
 
--- the answer to a page of satellite n, by how many words there are with it and were before
-abbrev pub pairAt : ℕ → ℕ → ℕ → List Page → Page → Answer
-pairAt week subframe n r p = cond (leb 15 (words n (r ++ (p ∷ []))) && not (leb 15 (words n r))) (gives (week ∷ 30 * subframe ∷ [])) nothing
+-- the answer to a page of satellite n, by how many words there are with it and were before, and whether the bytes are zeros
+abbrev pub pairAt : ℕ → ℕ → ℕ → List Page → Page → Bool → Answer
+pairAt week subframe n r p areZeros = cond (leb 15 (words n (r ++ (p ∷ []))) && not (leb 15 (words n r))) (outOf areZeros week subframe) nothing
 
 -- at most 15, since a word is at most 14
 words-few-from : (n : ℕ) (r : List Page) (m : ℕ) → m ≤ 15 → count (hasWord n) m r ≤ 15
@@ -216,7 +216,7 @@ pub record Step (week subframe : ℕ) (p : Page) (r : List Page) (f : Fed) : Typ
   pub core : Core week subframe (f .state) (r ++ (p ∷ []))
   pub answer :
       f .answer
-      ≡ pairAt week subframe (p .satellite) r p
+      ≡ pairAt week subframe (p .satellite) r p (isSilent (f .state .hkroot) (f .state .mack) (p .satellite - 1))
 
 module _ (week subframe : ℕ) (s : State) (r : List Page) (k : Core week subframe s r) (p : Page) (p5 : length (p .bytes) ≡ 5)
     (some : 1 ≤ p .satellite) (few : p .satellite ≤ 36) where
@@ -252,23 +252,26 @@ module _ (week subframe : ℕ) (s : State) (r : List Page) (k : Core week subfra
             (of-used n s r p own hit some few (k .h540) (k .m2160) (k .c36) p5)
         go m l u (no q) = of-others m s r p (k .of m l u) l u some q
 
+    abbrev usedThen : State
+    usedThen = used s (p .bytes) (n - 1) (wordOf (p .time)) .state
+
     used-answer :
         used s (p .bytes) (n - 1) (wordOf (p .time)) .answer
-        ≡ pairAt week subframe n r p
+        ≡ pairAt week subframe n r p (isSilent (usedThen .hkroot) (usedThen .mack) (n - 1))
     unfolding used answerAt
-    used-answer = go (ℕ-discrete (words n r) 14)
+    used-answer = go (isSilent (usedThen .hkroot) (usedThen .mack) (n - 1)) (ℕ-discrete (words n r) 14)
       where
         fewer : words n r ≤ 14
         fewer = omega (arith, word-is n s r p own hit)
 
         go :
-            Dec (words n r ≡ 14)
-            → cond (eqb (wordOf (p .time) + 1) 15) (gives (s .week ∷ 30 * s .subframe ∷ [])) nothing
-            ≡ pairAt week subframe n r p
-        go (yes q) =
+            (b : Bool) → Dec (words n r ≡ 14)
+            → cond (eqb (wordOf (p .time) + 1) 15) (outOf b (s .week) (s .subframe)) nothing
+            ≡ pairAt week subframe n r p b
+        go b (yes q) =
             let w : wordOf (p .time) + 1 ≡ 15 = omega (arith, word-is n s r p own hit) in
             rw (words-more n s r p own hit, eq-eqb (wordOf (p .time) + 1) 15 w, q, k .week-is, k .subframe-is)
-        go (no q) =
+        go b (no q) =
             let w : wordOf (p .time) + 1 ≡ 15 → ⊥ = (λ z. absurd (omega (arith, z, word-is n s r p own hit))) in
             rw (words-more n s r p own hit, ne-eqb (wordOf (p .time) + 1) 15 w, lt-leb 15 (suc (words n r)) (omega (arith, fewer, q)))
 
@@ -289,10 +292,10 @@ module _ (week subframe : ℕ) (s : State) (r : List Page) (k : Core week subfra
         go m l u (yes q) = subst (λ (j : ℕ). hasWord j p (words j r) ≡ false) q (own-word false e)
         go m l u (no q) = rw (ne-eqb n m q)
 
-    missed-answer : nothing ≡ pairAt week subframe n r p
-    missed-answer = rw (words-same n s s r p own (own-word false e)) (go (leb 15 (words n r)))
+    missed-answer : (areZeros : Bool) → nothing ≡ pairAt week subframe n r p areZeros
+    missed-answer areZeros = rw (words-same n s s r p own (own-word false e)) (go (leb 15 (words n r)))
       where
-        go : (b : Bool) → nothing ≡ cond (b && not b) (gives (week ∷ 30 * subframe ∷ [])) nothing
+        go : (b : Bool) → nothing ≡ cond (b && not b) (outOf areZeros week subframe) nothing
         go true = refl
         go false = refl
 
@@ -304,4 +307,4 @@ module _ (week subframe : ℕ) (s : State) (r : List Page) (k : Core week subfra
           (b : Bool) → eqb (wordOf (p .time)) (getD (s .counts) (n - 1) 0) ≡ b
           → Step week subframe p r (cond b (used s (p .bytes) (n - 1) (wordOf (p .time))) (record { state = s; answer = nothing }))
       go true e = record { core = used-core e; answer = used-answer e }
-      go false e = record { core = missed-core e; answer = missed-answer e }
+      go false e = record { core = missed-core e; answer = missed-answer e (isSilent (s .hkroot) (s .mack) (n - 1)) }

@@ -10,7 +10,7 @@ use Rattle.subframes.specs.SubframePromises.{outcome, meaning-subframe, 
 use Rattle.subframes.specs.SubframePromises.{NewSubframe, TakeWord, IsUsed, FeedSubframe, ViewSubframeShown, ViewSubframe, HkrootMessageRead}
 use Rattle.subframes.specs.declared.subframe.CollectSubframe.{CollectSubframe}
 use Rattle.subframes.specs.declared.subframe.SubframeAnswer.{SubframeAnswer}
-use Rattle.subframes.specs.declared.subframe.SubframeAnswer.the-variants.{Refused, Nothing, Complete}
+use Rattle.subframes.specs.declared.subframe.SubframeAnswer.the-variants.{Refused, Nothing, Complete, Silent}
 use Rattle.subframes.specs.declared.subframe.SubframeFed.{SubframeFed}
 use Rattle.subframes.specs.declared.subframe.HkrootMessage.{HkrootMessage}
 use Rattle.subframes.specs.declared.subframe.Message.{Message}
@@ -26,12 +26,14 @@ back-subframe (refused n) = Refused n
 back-subframe nothing = Nothing
 back-subframe (gives []) = Nothing
 back-subframe (gives (w ∷ [])) = Nothing
-back-subframe (gives (w ∷ t ∷ l)) = Complete w t
+back-subframe (gives (w ∷ t ∷ [])) = Complete w t
+back-subframe (gives (w ∷ t ∷ n ∷ l)) = Silent w t
 
 pub undo-subframe : (r : SubframeAnswer) → back-subframe (meaning-subframe r) ≡ r
 undo-subframe (Refused n) = refl
 undo-subframe Nothing = refl
 undo-subframe (Complete w t) = refl
+undo-subframe (Silent w t) = refl
 
 abbrev back-word : Answer → WordAnswer
 back-word (refused n) = WordRefused n

@@ -1,6 +1,6 @@
 -- What entries that are fed one by one make of a state.
 -- Assumes nothing.
-use Prim.Native.Nat.{ℕ, zero, suc, _+_, _-_, _*_, _≤_, _<_}
+use Prim.Native.Nat.{ℕ, zero, suc, _+_, _-_, _≤_, _<_}
 use native.Mathlib.Omega.{arith}
 use mathlib.Core.Path.{_≡_, refl, sym, ap, _∙_, subst⁻¹}
 use mathlib.Core.List.{List, [], _∷_, _++_}
@@ -9,7 +9,7 @@ use lib.ListN.{length, getD, take}
 use lib.Dec.{eqb}
 use borrow.Author.Tests.{eq-eqb, ne-eqb, eqb-false}
 use Rattle.layouts.specs.Answer.{Answer, refused, nothing, gives, refusal}
-use Rattle.subframes.specs.Subframe.{State, Page, Fed, wordOf, subframeOf, feedChecks, changed, answerAt, used, offered, feed}
+use Rattle.subframes.specs.Subframe.{State, Page, Fed, wordOf, subframeOf, feedChecks, changed, isSilent, outOf, answerAt, used, offered, feed}
 use Rattle.subframes.specs.Trace.{entries, FedMany, byAnswer, feedEach, traceChecks, feedAll}
 use Rattle.subframes.specs.TraceWalk.{answers, told}
 use Rattle.subframes.specs.SubframeRecovery.{after, noPage}
@@ -32,27 +32,27 @@ after-next s (p ∷ ps) (suc k) h = after-next (feed s p .state) ps k (omega (ar
 -- A refused page leaves the state.
 still : (s : State) (p : Page) (q : ℕ) → feed s p .answer ≡ refused q → feed s p .state ≡ s
 unfolding feed offered used answerAt
-still s p q e = go (eqb (refusal (feedChecks s p)) 0) (eqb (wordOf (p .time)) (getD (t .counts) (p .satellite - 1) 0)) (eqb (wordOf (p .time) + 1) 15) e
+still s p q e =
+    go (eqb (refusal (feedChecks s p)) 0) (eqb (wordOf (p .time)) (getD (t .counts) (p .satellite - 1) 0)) (eqb (wordOf (p .time) + 1) 15)
+    (isSilent (mem .hkroot) (mem .mack) (p .satellite - 1)) e
   where
     t : State
     t = changed s (p .week) (subframeOf (p .time))
 
-    full : Answer
-    full = gives (t .week ∷ 30 * t .subframe ∷ [])
-
     mem : State
     mem = used t (p .bytes) (p .satellite - 1) (wordOf (p .time)) .state
 
-    fed : Bool → Bool → Bool → Fed
-    fed a b c =
-        cond a (cond b (record { state = mem; answer = cond c full nothing }) (record { state = t; answer = nothing }))
+    fed : Bool → Bool → Bool → Bool → Fed
+    fed a b c d =
+        cond a (cond b (record { state = mem; answer = cond c (outOf d (t .week) (t .subframe)) nothing }) (record { state = t; answer = nothing }))
         (record { state = s; answer = refused (refusal (feedChecks s p)) })
 
-    go : (a b c : Bool) → fed a b c .answer ≡ refused q → fed a b c .state ≡ s
-    go true true true f = let z : _≡_ {A = ℕ} 0 1 = cc in absurd (omega arith)
-    go true true false f = let z : _≡_ {A = ℕ} 0 1 = cc in absurd (omega arith)
-    go true false c f = let z : _≡_ {A = ℕ} 0 1 = cc in absurd (omega arith)
-    go false b c f = refl
+    go : (a b c d : Bool) → fed a b c d .answer ≡ refused q → fed a b c d .state ≡ s
+    go true true true true f = let z : _≡_ {A = ℕ} 0 1 = cc in absurd (omega arith)
+    go true true true false f = let z : _≡_ {A = ℕ} 0 1 = cc in absurd (omega arith)
+    go true true false d f = let z : _≡_ {A = ℕ} 0 1 = cc in absurd (omega arith)
+    go true false c d f = let z : _≡_ {A = ℕ} 0 1 = cc in absurd (omega arith)
+    go false b c d f = refl
 
 -- What is told of a page more that brought nothing.
 told-more : (m : ℕ) (a : Answer) → ((q : ℕ) → a ≡ refused q → ⊥) → (m ≡ 0 → a ≡ nothing) → told (suc m) a ≡ nothing ∷ told m a

@@ -2,23 +2,23 @@
 -- Assumes nothing.
 use Prim.Native.Nat.{ℕ, zero, suc, _+_, _-_, _*_, _/_, _%_, _≤_, _<_}
 use native.Mathlib.Omega.{arith}
-use mathlib.Core.Path.{_≡_, refl, sym, ap, _∙_, subst, subst⁻¹}
+use mathlib.Core.Path.{_≡_, refl, sym, ap, _∙_, subst}
 use mathlib.Core.List.{List, [], _∷_, _++_, append-nil, append-assoc}
-use mathlib.Core.Bool.{Bool, true, false, cond}
+use mathlib.Core.Bool.{false}
 use lib.ListN.{length, getD, take, drop, replicate, length-drop}
 use lib.Seq.{getD-drop, drop-drop, take-add}
 use Rattle.layouts.specs.Answer.{Answer, refused, nothing, gives, refusal}
 use Rattle.subframes.specs.Subframe.{State, Page, small, changed, answerAt, used, offered, feed}
 use Rattle.subframes.specs.Trace.{entryAt, entriesFrom, entries, FedMany, traceChecks, feedEach, feedAll}
 use Rattle.subframes.specs.SubframePromises.{state, meaning-subframe}
-use Rattle.subframes.specs.TracePromises.{outcome-all, FeedAll}
-use Rattle.runs.specs.Runs.{runFrom, runWith}
+use Rattle.subframes.specs.TracePromises.{FeedAll}
+use Rattle.runs.specs.Runs.{runFrom}
 use Rattle.subframes.specs.SubframeRecovery.{isAdmitted, sameSubframe, grown, run, after, noPage}
 use Rattle.subframes.specs.SubframeHistory.{many, History, called}
-use Rattle.subframes.specs.TraceWalk.{answers, told, tells, Walk, begins, goes-on, Walks, TraceWalked, threeEntries, sevenAt, WalkExample}
+use Rattle.subframes.specs.TraceWalk.{answers, told, tells, Walk, begins, goes-on, Walks, TraceWalked, sevenAt, WalkExample}
 use Rattle.subframes.specs.declared.subframe.CollectSubframe.{CollectSubframe}
 use Rattle.subframes.specs.declared.subframe.SubframeAnswer.{SubframeAnswer}
-use Rattle.subframes.specs.declared.subframe.SubframeAnswer.the-variants.{Refused, Nothing, Complete}
+use Rattle.subframes.specs.declared.subframe.SubframeAnswer.the-variants.{Refused, Nothing, Complete, Silent}
 use Rattle.subframes.specs.declared.trace.TraceFed.{TraceFed}
 use Rattle.subframes.proofs.TraceSteps.{after-more, answers-more, Walked, Tells, walked-all}
 use Rattle.subframes.proofs.SubframeHistory.{whole-passed, feed-all-recovers}
@@ -89,6 +89,12 @@ not-complete a q e week time f =
     let z : _≡_ {A = ℕ} 0 1 = cc in
     absurd (omega arith)
 
+not-silent : (a : SubframeAnswer) (q : ℕ) → meaning-subframe a ≡ refused q → (week time : ℕ) → a ≡ Silent week time → ⊥
+not-silent a q e week time f =
+    let g : gives (week ∷ time ∷ 1 ∷ []) ≡ refused q = rw f at e in
+    let z : _≡_ {A = ℕ} 0 1 = cc in
+    absurd (omega arith)
+
 -- One call with whole entries.
 module _ {d : CollectSubframe} {x y : List ℕ} {qs : List Page} (j : History d x y qs) (rest : List ℕ) (whole : length rest % 12 ≡ 0)
     (r : TraceFed) (x′ y′ : List ℕ) (e : FeedAll d x y rest r x′ y′) where
@@ -136,7 +142,8 @@ module _ {d : CollectSubframe} {x y : List ℕ} {qs : List Page} (j : History d 
           let none : r .consumed ≡ 0 = sym same ∙ w .refused-none q (said ∙ f) in
           let one : length (tells r) ≡ 1 = ap (λ (a : Answer). length (told (r .consumed) a)) f in
           let some : 0 < length (entries rest) = omega (arith, one, call-tells .room) in
-          let first = feed-all-recovers j rest r x′ y′ e .stops whole (omega (arith, none, some)) (not-complete (r .answer) q f) in
+          let first =
+          feed-all-recovers j rest r x′ y′ e .stops whole (omega (arith, none, some)) (not-complete (r .answer) q f) (not-silent (r .answer) q f) in
           let off : isAdmitted (getD (entries rest) 0 noPage) ≡ false = ap (λ (n : ℕ). isAdmitted (getD (entries rest) n noPage)) (sym none) ∙ first in
           ap (λ (n : ℕ). run (qs ++ take n (entries rest))) none
           ∙ ap run (append-nil qs)

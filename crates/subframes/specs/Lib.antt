@@ -1,4 +1,5 @@
 pub mod Agreed
+pub mod SilentPairs
 pub mod Subframe
 pub mod SubframeHistory
 pub mod SubframePromises

@@ -1,9 +1,9 @@
--- The subframe collector: document 01, "A subframe from its pages".
+-- The subframe collector: document 01, "A subframe from its pages", and document 02, [2], "Silent satellites show up as complete".
 -- Assumes nothing.
 use Prim.Native.Nat.{ℕ, _+_, _-_, _*_, _/_, _%_}
 use mathlib.Core.List.{List, [], _∷_, _++_}
 use mathlib.Core.Bool.{Bool, true, cond, not, _&&_}
-use lib.ListN.{length, getD, set, replicate}
+use lib.ListN.{length, getD, set, take, drop, replicate}
 use lib.Dec.{leb, ltb, eqb}
 use Rattle.layouts.specs.Answer.{Answer, refused, nothing, gives, Check, _when_, refusal}
 use Rattle.layouts.specs.Gst.{svnChecks, svnGstChecks}
@@ -91,23 +91,36 @@ pub record Fed : Type 0 where
 abbrev pub put4 : List ℕ → ℕ → List ℕ → List ℕ
 put4 mack at bytes = set (set (set (set mack at (getD bytes 1 0)) (at + 1) (getD bytes 2 0)) (at + 2) (getD bytes 3 0)) (at + 3) (getD bytes 4 0)
 
--- "at 15 the pair is complete, with time (week, 30 x subframe)"
-unfoldable pub answerAt : ℕ → ℕ → ℕ → Answer
-answerAt count week subframe = cond (eqb count 15) (gives (week ∷ 30 * subframe ∷ [])) nothing
+-- Document 02, [2]: "A pair whose 75 bytes are all zero": the pair of the satellite at i, from 0
+unfoldable pub zeros : List ℕ → Bool
+zeros [] = true
+zeros (b ∷ l) = eqb b 0 && zeros l
 
--- "its bytes go to that place and the count rises": the satellite at i, from 0
+unfoldable pub isSilent : List ℕ → List ℕ → ℕ → Bool
+isSilent hkroot mack i = zeros (take 15 (drop (15 * i) hkroot)) && zeros (take 60 (drop (60 * i) mack))
+
+-- "the pair is complete, with time (week, 30 x subframe)"; "is to be answered "silent" in place of complete", with the same time: a third number says so
+abbrev pub complete : ℕ → ℕ → Answer
+complete week subframe = gives (week ∷ 30 * subframe ∷ [])
+
+abbrev pub silent : ℕ → ℕ → Answer
+silent week subframe = gives (week ∷ 30 * subframe ∷ 1 ∷ [])
+
+abbrev pub outOf : Bool → ℕ → ℕ → Answer
+outOf areZeros week subframe = cond areZeros (silent week subframe) (complete week subframe)
+
+-- "at 15 the pair is complete": it comes out at 15, and nothing does before
+unfoldable pub answerAt : ℕ → ℕ → ℕ → Bool → Answer
+answerAt count week subframe areZeros = cond (eqb count 15) (outOf areZeros week subframe) nothing
+
+-- "its bytes go to that place and the count rises": the satellite at i, from 0. Whether the pair is silent is asked of the bytes then.
 unfoldable pub used : State → List ℕ → ℕ → ℕ → Fed
 used s bytes i word =
+    let hkroot = set (s .hkroot) (15 * i + word) (getD bytes 0 0) in
+    let mack = put4 (s .mack) (60 * i + 4 * word) bytes in
     record {
-      state =
-          record {
-            week = s .week;
-            subframe = s .subframe;
-            counts = set (s .counts) i (word + 1);
-            hkroot = set (s .hkroot) (15 * i + word) (getD bytes 0 0);
-            mack = put4 (s .mack) (60 * i + 4 * word) bytes;
-          };
-      answer = answerAt (word + 1) (s .week) (s .subframe);
+      state = record { week = s .week; subframe = s .subframe; counts = set (s .counts) i (word + 1); hkroot = hkroot; mack = mack };
+      answer = answerAt (word + 1) (s .week) (s .subframe) (isSilent hkroot mack i);
     }
 
 -- "If the word differs from the satellite's count: nothing."

@@ -19,7 +19,7 @@ use Rattle.subframes.specs.SubframeRecovery.{isAdmitted, before, run, af
 use Rattle.runs.specs.Rising.{Earliest}
 use Rattle.subframes.specs.declared.subframe.CollectSubframe.{CollectSubframe}
 use Rattle.subframes.specs.declared.subframe.SubframeAnswer.{SubframeAnswer}
-use Rattle.subframes.specs.declared.subframe.SubframeAnswer.the-variants.{Refused, Nothing, Complete}
+use Rattle.subframes.specs.declared.subframe.SubframeAnswer.the-variants.{Refused, Nothing, Complete, Silent}
 use Rattle.subframes.specs.declared.subframe.SubframeFed.{SubframeFed}
 use Rattle.subframes.specs.declared.subframe.HkrootMessage.{HkrootMessage}
 use Rattle.subframes.specs.declared.subframe.Message.{Message}
@@ -105,9 +105,9 @@ pub record FeedAllRecovers (c : CollectSubframe) (hkroot mack : List ℕ) (ps : 
       → EntryRecovers c hkroot mack ps trace k (record { state = state (r .collector) hkroot′ mack′; answer = meaning-subframe (r .answer) })
   -- where none was consumed record and memory are as before
   pub none : r .consumed ≡ 0 → (r .collector ≡ c) × (hkroot′ ≡ hkroot) × (mack′ ≡ mack)
-  -- of whole entries it stops short of the end only where a subframe is complete or the next entry is refused
+  -- of whole entries it stops short of the end only where a pair is complete or silent or the next entry is refused
   pub stops : length trace % 12 ≡ 0 → r .consumed < length (entries trace) → ((week time : ℕ) → r .answer ≡ Complete week time → ⊥)
-      → isAdmitted (getD (entries trace) (r .consumed) noPage) ≡ false
+      → ((week time : ℕ) → r .answer ≡ Silent week time → ⊥) → isAdmitted (getD (entries trace) (r .consumed) noPage) ≡ false
   -- and a trace that is not whole entries is refused with 1
   pub not-whole : (length trace % 12 ≡ 0 → ⊥) → (r .answer ≡ Refused 1) × (r .consumed ≡ 0)
 
@@ -152,6 +152,10 @@ abbrev pub wordsFrom : ℕ → ℕ → List Page
 wordsFrom word zero = []
 wordsFrom word (suc n) = wordPage word ∷ wordsFrom (suc word) n
 
+-- word 14 with a last byte of 1
+abbrev pub lastPage : Page
+lastPage = call (0 ∷ 0 ∷ 0 ∷ 0 ∷ 1 ∷ []) 7 1200 88
+
 -- word 7 with 4 bytes, which is refused
 abbrev pub shortPage : Page
 shortPage = call (replicate 4 0) 7 1200 74
@@ -178,9 +182,11 @@ pub record SmallestCase : Type 0 where
   pub refused-between : {c : CollectSubframe} {hkroot mack : List ℕ} → History c hkroot mack (wordsFrom 0 7)
       → (x : List ℕ) → length x ≡ 539 → (p : Page) (r : SubframeFed) (x′ mack′ : List ℕ) → FeedSubframe c x mack p r x′ mack′
       → (r .answer ≡ Refused 1) × History (r .collector) hkroot mack′ (wordsFrom 0 7)
-  -- so that words 7 to 13 make it a history of 14 words, and the last one completes
+  -- so that words 7 to 13 make it a history of 14 words, and with the last one the pair comes out: silent, and with a last byte of 1 complete
   pub comes-out : {c : CollectSubframe} {hkroot mack : List ℕ} → History c hkroot mack (wordsFrom 0 7 ++ wordsFrom 7 7)
-      → (r : SubframeFed) (hkroot′ mack′ : List ℕ) → FeedSubframe c hkroot mack (wordPage 14) r hkroot′ mack′ → r .answer ≡ Complete 1200 60
+      → (r : SubframeFed) (hkroot′ mack′ : List ℕ) → FeedSubframe c hkroot mack (wordPage 14) r hkroot′ mack′ → r .answer ≡ Silent 1200 60
+  pub completes : {c : CollectSubframe} {hkroot mack : List ℕ} → History c hkroot mack (wordsFrom 0 7 ++ wordsFrom 7 7)
+      → (r : SubframeFed) (hkroot′ mack′ : List ℕ) → FeedSubframe c hkroot mack lastPage r hkroot′ mack′ → r .answer ≡ Complete 1200 60
   -- where the refused call was to bring word 7, with 4 bytes, the pair does not come out
   pub stays-out : {c : CollectSubframe} {hkroot mack : List ℕ} → History c hkroot mack (wordsFrom 0 7 ++ (shortPage ∷ wordsFrom 8 6))
       → (r : SubframeFed) (hkroot′ mack′ : List ℕ) → FeedSubframe c hkroot mack (wordPage 14) r hkroot′ mack′ → r .answer ≡ Nothing

@@ -7,7 +7,7 @@ use Rattle.layouts.specs.Answer.{Answer, refused, nothing, gives, shown, Copied
 use Rattle.subframes.specs.Subframe.{State, new, Page, WordStep, takeWord, Fed, feed, usedAnswer, view}
 use Rattle.subframes.specs.declared.subframe.CollectSubframe.{CollectSubframe}
 use Rattle.subframes.specs.declared.subframe.SubframeAnswer.{SubframeAnswer}
-use Rattle.subframes.specs.declared.subframe.SubframeAnswer.the-variants.{Refused, Nothing, Complete}
+use Rattle.subframes.specs.declared.subframe.SubframeAnswer.the-variants.{Refused, Nothing, Complete, Silent}
 use Rattle.subframes.specs.declared.subframe.SubframeFed.{SubframeFed}
 use Rattle.subframes.specs.declared.subframe.HkrootMessage.{HkrootMessage}
 use Rattle.subframes.specs.declared.subframe.Message.{Message}
@@ -30,6 +30,7 @@ abbrev pub meaning-subframe : SubframeAnswer → Answer
 meaning-subframe (Refused n) = refused n
 meaning-subframe Nothing = nothing
 meaning-subframe (Complete week time) = gives (week ∷ time ∷ [])
+meaning-subframe (Silent week time) = gives (week ∷ time ∷ 1 ∷ [])
 
 abbrev pub meaning-word : WordAnswer → Answer
 meaning-word (WordRefused n) = refused n

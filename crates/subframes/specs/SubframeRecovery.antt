@@ -1,19 +1,19 @@
 -- Demand 3, for subframes: "A collector, new at the start, recovers. Let pages be lost, doubled, reordered or altered, the clock jump and calls be refused,
 -- with record and memory changed by these calls only. A run is the admitted pages from the first, or from one whose week or subframe differs from the one
 -- before, up to the next such change. In it all answers and completed messages are those a new collector gives. A satellite's message pair comes out
--- exactly when its pages in the run first contain words 0 to 14 in that order, built from the earliest such choice." Here of the definition `feed`; of the
--- code in `SubframeHistory.antt`.
+-- exactly when its pages in the run first contain words 0 to 14 in that order, built from the earliest such choice." By document 02, [2], it comes out
+-- complete or silent. Here of the definition `feed`; of the code in `SubframeHistory.antt`.
 -- Assumes nothing.
 use Prim.Native.Nat.{ℕ, zero, suc, _-_, _*_, _≤_}
 use mathlib.Core.List.{List, [], _∷_, _++_}
 use mathlib.Core.Bool.{Bool, true, false, not, _&&_}
 use mathlib.Core.Path.{_≡_}
-use mathlib.Core.Logic.{_↔_}
+use mathlib.Core.Logic.{_↔_, _⊎_}
 use lib.ListN.{length, getD, take, drop}
 use lib.Dec.{eqb}
 use Rattle.layouts.specs.Answer.{Answer, refused, nothing, gives, shown, Check, _when_, refusal}
 use Rattle.layouts.specs.Gst.{svnGstChecks}
-use Rattle.subframes.specs.Subframe.{State, new, Page, Fed, wordOf, subframeOf, feed, view}
+use Rattle.subframes.specs.Subframe.{State, new, Page, Fed, wordOf, subframeOf, zeros, complete, silent, outOf, feed, view}
 use Rattle.runs.specs.Runs.{afterAll, goesOn, runBefore, runWith, runOf}
 use Rattle.runs.specs.Rising.{Choice, Earliest}
 
@@ -73,9 +73,13 @@ pub record Built (s : State) (satellite : ℕ) (r : List Page) : Type 0 where
   pub hkroot-is : message 15 satellite (s .hkroot) ≡ hkrootOf (λ k. getD r (choice .at k) noPage) 15
   pub mack-is : message 60 satellite (s .mack) ≡ mackOf (λ k. getD r (choice .at k) noPage) 15
 
--- A pair comes out of a page's call: "complete, with time (week, 30 x subframe)".
+-- A pair comes out of a page's call: "complete, with time (week, 30 x subframe)"; document 02, [2]: "The recovery property now reads "complete or silent"."
 abbrev pub ComesOut : Answer → Page → Type 0
-ComesOut a p = a ≡ gives (p .week ∷ 30 * subframeOf (p .time) ∷ [])
+ComesOut a p = (a ≡ complete (p .week) (subframeOf (p .time))) ⊎ (a ≡ silent (p .week) (subframeOf (p .time)))
+
+-- "A pair whose 75 bytes are all zero": built from the pages of a run at these positions
+abbrev pub areZeros : List Page → (ℕ → ℕ) → Bool
+areZeros r at = zeros (hkrootOf (λ k. getD r (at k) noPage) 15) && zeros (mackOf (λ k. getD r (at k) noPage) 15)
 
 -- Two calls did the same: the answer, and what the viewer shows of each satellite after it.
 pub record Alike (f g : Fed) : Type 0 where
@@ -101,6 +105,9 @@ pub record Recovers (s : State) (r : List Page) (p : Page) (f : Fed) : Type 0 wh
   pub else-nothing : isAdmitted p ≡ true → (ComesOut (f .answer) p → ⊥) → f .answer ≡ nothing
   -- (c) built from the earliest such choice
   pub earliest : isAdmitted p ≡ true → ComesOut (f .answer) p → Built (f .state) (p .satellite) (grown r p)
+  -- "is to be answered "silent" in place of complete": the bytes of the earliest choice alone decide which of the two
+  pub said : isAdmitted p ≡ true → (q : Words (p .satellite) (grown r p)) → Earliest (hasWord (p .satellite)) noPage q
+      → (Words (p .satellite) (before r p) → ⊥) → f .answer ≡ outOf (areZeros (grown r p) (q .at)) (p .week) (subframeOf (p .time))
   -- (d) the viewer shows it from then until the next change, and nothing before
   pub viewed : isAdmitted p ≡ true → (satellite : ℕ) → 1 ≤ satellite → satellite ≤ 36 → Viewed (f .state) (grown r p) satellite
   pub until-changed : goesOn isAdmitted sameSubframe r p ≡ true → (satellite : ℕ) → 1 ≤ satellite → satellite ≤ 36 → Words satellite r

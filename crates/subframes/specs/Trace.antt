@@ -35,12 +35,12 @@ pub record FedMany : Type 0 where
 
 -- one of three, by an answer
 abbrev pub byAnswer : Answer → FedMany → FedMany → FedMany → FedMany
-byAnswer (refused q) ends goes-on completes = ends
-byAnswer nothing ends goes-on completes = goes-on
-byAnswer (gives l) ends goes-on completes = completes
+byAnswer (refused q) ends goes-on comes-out = ends
+byAnswer nothing ends goes-on comes-out = goes-on
+byAnswer (gives l) ends goes-on comes-out = comes-out
 
--- Entries fed one by one, n of them consumed before: until one completes a subframe or the trace ends. An entry that would be refused ends it before that
--- entry; only as the first one it is answered with its number.
+-- Entries fed one by one, n of them consumed before: until a pair comes out, complete or silent, or the trace ends. An entry that would be refused ends it
+-- before that entry; only as the first one it is answered with its number.
 unfoldable pub feedEach : ℕ → State → List Page → FedMany
 feedEach n s [] = record { state = s; answer = nothing; consumed = n }
 feedEach n s (p ∷ ps) =

@@ -20,7 +20,7 @@ abbrev pub answers : State → List Page → List Answer
 answers s [] = []
 answers s (p ∷ ps) = feed s p .answer ∷ answers (feed s p .state) ps
 
--- What one call tells of the entries that it was given: those that it consumed brought nothing, but for a last one that completed a subframe. Where it
+-- What one call tells of the entries that it was given: those that it consumed brought nothing, but for a last one with which a pair came out. Where it
 -- refuses, it tells of the first entry alone, and the caller steps over that.
 abbrev pub told : ℕ → Answer → List Answer
 told n (refused q) = refused q ∷ []

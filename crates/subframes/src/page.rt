@@ -3,10 +3,10 @@ use crate::subframe::WordAnswer;
 use crate::subframe::WordCount;
 ghost use mathlib.Core.Path.{_≡_};
 ghost use mathlib.Core.List.{List};
-ghost use Prim.Native.Nat.{ℕ, _+_, _<_};
-ghost use lib.ListN.{length, getD, set};
+ghost use Prim.Native.Nat.{ℕ, _+_, _≤_, _<_};
+ghost use lib.ListN.{length, getD, set, take, drop};
 ghost use Rattle.layouts.specs.Answer.{refusal as refusalOf};
-ghost use Rattle.subframes.specs.Subframe.{feedChecks, changed, put4};
+ghost use Rattle.subframes.specs.Subframe.{feedChecks, changed, put4, zeros, isSilent};
 ghost use Rattle.subframes.specs.inner.Page.{pageOf, stateOf, Offered, PageFed};
 
 // Whose page it is, and when it came.
@@ -20,7 +20,7 @@ pub(crate) struct Entry {
 pub(crate) enum PageTaken {
     Unused,
     Used,
-    Completes,
+    Last,
 }
 
 // The counts at a page of week `to_week` and subframe `to_subframe`: all 0 where either is another one.
@@ -54,6 +54,30 @@ fn place(hkroot: &mut [u8], mack: &mut [u8], page: &[u8], h: usize, m: usize)
     mack[m + 3] = d;
 }
 
+// Whether `many` bytes from `first` on are zeros: a loop to its end, which the compiler makes one over sixteen bytes at a time.
+fn are_zeros(bytes: &[u8], first: usize, many: usize) -> bool
+    requires { ⌜ first + many ≤ length (now bytes) ⌝ }
+    ensures { λ r. ⌜ r ≡ zeros (take many (drop first (now (bytes .entry)))) ⌝ }
+{
+    let mut any: u8 = 0;
+    let mut i = 0;
+    while i < many {
+        any = any | bytes[first + i];
+        i += 1;
+    }
+    any == 0
+}
+
+// Whether the pair of the satellite at `i` is zeros alone.
+pub(crate) fn is_silent(hkroot: &[u8], mack: &[u8], i: usize) -> bool
+    requires { ⌜ (length (now hkroot) ≡ 540) × (length (now mack) ≡ 2160) × (i < 36) ⌝ }
+    ensures { λ r. ⌜ r ≡ isSilent (now (hkroot .entry)) (now (mack .entry)) i ⌝ }
+{
+    let in_hkroot = are_zeros(hkroot, 15 * i, 15);
+    let in_mack = are_zeros(mack, 60 * i, 60);
+    in_hkroot && in_mack
+}
+
 // The page has the satellite's next word: its bytes are kept, and the count rises to `next`.
 fn keep(
     counts: &mut [u8; 36],
@@ -75,7 +99,7 @@ fn keep(
     if next != 15 {
         return PageTaken::Used;
     }
-    PageTaken::Completes
+    PageTaken::Last
 }
 
 // The page of the satellite at `i`: used where its count takes the word.

@@ -6,10 +6,10 @@ use layouts::gst;
 ghost use mathlib.Core.Path.{_≡_};
 ghost use mathlib.Core.List.{[]};
 ghost use mathlib.Core.Bool.{true, false};
-ghost use Prim.Native.Nat.{_+_, _*_, _≤_, _<_};
+ghost use Prim.Native.Nat.{_+_, _-_, _*_, _≤_, _<_};
 ghost use lib.ListN.{length, take, drop};
 ghost use Rattle.layouts.specs.Answer.{shown as shownOf, refusal as refusalOf};
-ghost use Rattle.subframes.specs.Subframe.{small, isUsed, rangeChecks, recordChecks, viewChecks, askChecks, feedChecks};
+ghost use Rattle.subframes.specs.Subframe.{small, isSilent, outOf, isUsed, rangeChecks, recordChecks, viewChecks, askChecks, feedChecks};
 ghost use Rattle.subframes.specs.inner.Page.{answerOf};
 ghost use Rattle.subframes.specs.inner.Subframe.{Inside, Joined, eightOf};
 ghost use Rattle.subframes.specs.SubframePromises.{state, call, meaning-subframe, meaning-shown, sizeOf};
@@ -23,10 +23,12 @@ pub struct CollectSubframe {
     pub counts: [u8; 36],
 }
 
+// A pair of zeros alone is silent in place of complete: the satellite carries no OSNMA, and its pair goes no further.
 pub enum SubframeAnswer {
     Refused(u8),
     Nothing,
     Complete { week: u16, time: u32 },
+    Silent { week: u16, time: u32 },
 }
 
 pub struct SubframeFed {
@@ -208,17 +210,35 @@ fn refuses(
     gst::refuses(satellite as u64, week as u64, time as u64)
 }
 
-// The answer to an admitted page of that week and subframe.
-pub(crate) fn answer_of(taken: PageTaken, week: u16, subframe: u16) -> SubframeAnswer
-    ensures { λ r. ⌜ meaning-subframe r ≡ answerOf taken week subframe ⌝ }
+// The satellite's pair comes out: silent where it is zeros alone, else complete.
+fn pair(hkroot: &[u8], mack: &[u8], i: usize, week: u16, subframe: u16) -> SubframeAnswer
+    requires { ⌜ (length (now hkroot) ≡ 540) × (length (now mack) ≡ 2160) × (i < 36) ⌝ }
+    ensures { λ r. ⌜ meaning-subframe r ≡ outOf (isSilent (now (hkroot .entry)) (now (mack .entry)) i) week subframe ⌝ }
+{
+    let time = 30 * subframe as u32;
+    if page::is_silent(hkroot, mack, i) {
+        return SubframeAnswer::Silent { week, time };
+    }
+    SubframeAnswer::Complete { week, time }
+}
+
+// The answer to an admitted page of that week and subframe, with the lent bytes then.
+pub(crate) fn answer_of(
+    taken: PageTaken,
+    hkroot: &[u8],
+    mack: &[u8],
+    satellite: u8,
+    week: u16,
+    subframe: u16,
+) -> SubframeAnswer
+    requires { ⌜ (length (now hkroot) ≡ 540) × (length (now mack) ≡ 2160) × (1 ≤ satellite) × (satellite ≤ 36) ⌝ }
+    ensures { λ r. ⌜ meaning-subframe r
+        ≡ answerOf taken week subframe (isSilent (now (hkroot .entry)) (now (mack .entry)) (satellite - 1)) ⌝ }
 {
     match taken {
         PageTaken::Unused => SubframeAnswer::Nothing,
         PageTaken::Used => SubframeAnswer::Nothing,
-        PageTaken::Completes => {
-            let n = subframe as u32;
-            SubframeAnswer::Complete { week, time: 30 * n }
-        }
+        PageTaken::Last => pair(hkroot, mack, (satellite - 1) as usize, week, subframe),
     }
 }
 
@@ -264,7 +284,7 @@ pub fn feed(
             subframe,
             counts,
         },
-        answer: answer_of(taken, week, subframe),
+        answer: answer_of(taken, hkroot, mack, satellite, week, subframe),
     }
 }
 

@@ -16,7 +16,7 @@ ghost use Rattle.subframes.specs.Subframe.{recordChecks};
 ghost use Rattle.subframes.specs.SubframePromises.{state, meaning-subframe};
 ghost use Rattle.subframes.specs.Trace.{entryAt, entries as entriesOf, feedEach, traceChecks};
 ghost use Rattle.subframes.specs.TracePromises.{outcome-all, FeedAll};
-ghost use Rattle.subframes.specs.inner.Trace.{completesOf, endsWith, fedOf};
+ghost use Rattle.subframes.specs.inner.Trace.{isLast, endsWith, fedOf};
 ghost use Rattle.subframes.specs.inner.Page.{pageOf};
 
 pub struct TraceFed {
@@ -58,14 +58,14 @@ fn entry_refuses(entry: Entry) -> u8
     gst::refuses(entry.satellite as u64, entry.week as u64, entry.time as u64)
 }
 
-// Whether the page was its subframe's last.
-fn completes(taken: PageTaken) -> bool
-    ensures { λ r. ⌜ r ≡ completesOf taken ⌝ }
+// Whether the page was its subframe's last, so that its pair comes out.
+fn is_last(taken: PageTaken) -> bool
+    ensures { λ r. ⌜ r ≡ isLast taken ⌝ }
 {
     match taken {
         PageTaken::Unused => false,
         PageTaken::Used => false,
-        PageTaken::Completes => true,
+        PageTaken::Last => true,
     }
 }
 
@@ -129,8 +129,8 @@ fn feed_entries(
         week = entry.week;
         subframe = (entry.time / 30) as u16;
         n += 1;
-        if completes(taken) {
-            let answer = subframe::answer_of(taken, week, subframe);
+        if is_last(taken) {
+            let answer = subframe::answer_of(taken, hkroot, mack, entry.satellite, week, subframe);
             return fed(week, subframe, counts, answer, n);
         }
     }
@@ -147,9 +147,9 @@ fn trace_refuses(collector: CollectSubframe, hkroot: &[u8], mack: &[u8], trace: 
     subframe::record_refuses(collector, hkroot, mack)
 }
 
-// Feeds entries from the front until one completes a subframe, the trace ends, or before one that would be refused; tells how many it consumed, and the last
-// answer. Refuses 1 for lent bytes other than 540 and 2,160 or a trace that is not whole entries, 12 for the record, 2, 3, 4 for the first entry's satellite,
-// week and time.
+// Feeds entries from the front until one's pair comes out, complete or silent, the trace ends, or before one that would be refused; tells how many it
+// consumed, and the last answer. Refuses 1 for lent bytes other than 540 and 2,160 or a trace that is not whole entries, 12 for the record, 2, 3, 4 for the
+// first entry's satellite, week and time.
 pub fn feed_all(
     collector: CollectSubframe,
     hkroot: &mut [u8],

@@ -72,10 +72,10 @@ agreed =
       spells = λ text bytes r s p q. p ∙ sym q;
       subframe = λ out satellite week time. both-written;
       dsm = λ out id bytes. both-written;
-      totals = λ out pages skipped subframes dsms tail. both-written;
+      totals = λ out pages skipped subframes dsms silent tail. both-written;
       refused = λ out n. both-written;
       subframe-at = λ out at satellite week time. both-put;
       dsm-at = λ out at id bytes. both-put;
-      totals-at = λ out at pages skipped subframes dsms tail. both-put;
+      totals-at = λ out at pages skipped subframes dsms silent tail. both-put;
       refused-at = λ out at n. both-put;
     }

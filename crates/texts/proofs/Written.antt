@@ -164,10 +164,12 @@ pub dsm-few : (id many : ℕ) → id ≤ most → many ≤ most → length (line
 unfolding bytes
 dsm-few id many a b = line-few (dsmParts id many) (a, (b, tt))
 
-pub totals-few : (pages skipped subframes dsms tail : ℕ) → pages ≤ most → skipped ≤ most → subframes ≤ most → dsms ≤ most → tail ≤ most
-    → length (line (totalsParts pages skipped subframes dsms tail)) ≤ 139
+pub totals-few :
+    (pages skipped subframes dsms silent tail : ℕ) → pages ≤ most → skipped ≤ most → subframes ≤ most → dsms ≤ most → silent ≤ most → tail ≤ most
+    → length (line (totalsParts pages skipped subframes dsms silent tail)) ≤ 167
 unfolding bytes
-totals-few pages skipped subframes dsms tail a b c d e = line-few (totalsParts pages skipped subframes dsms tail) (a, (b, (c, (d, (e, tt)))))
+totals-few pages skipped subframes dsms silent tail a b c d e f =
+    line-few (totalsParts pages skipped subframes dsms silent tail) (a, (b, (c, (d, (e, (f, tt))))))
 
 pub refused-few : (n : ℕ) → n ≤ most → length (line (refusedParts n)) ≤ 29
 unfolding bytes

@@ -23,9 +23,9 @@ pub record Agreed : Type 0 where
   -- lines
   pub subframe : (out : List ℕ) (satellite week time : ℕ) → AgreeWith (SubframeLine out satellite week time)
   pub dsm : (out : List ℕ) (id bytes : ℕ) → AgreeWith (DsmLine out id bytes)
-  pub totals : (out : List ℕ) (pages skipped subframes dsms tail : ℕ) → AgreeWith (TotalsLine out pages skipped subframes dsms tail)
+  pub totals : (out : List ℕ) (pages skipped subframes dsms silent tail : ℕ) → AgreeWith (TotalsLine out pages skipped subframes dsms silent tail)
   pub refused : (out : List ℕ) (n : ℕ) → AgreeWith (RefusedLine out n)
   pub subframe-at : (out : List ℕ) (at satellite week time : ℕ) → AgreeWith (SubframeLineAt out at satellite week time)
   pub dsm-at : (out : List ℕ) (at id bytes : ℕ) → AgreeWith (DsmLineAt out at id bytes)
-  pub totals-at : (out : List ℕ) (at pages skipped subframes dsms tail : ℕ) → AgreeWith (TotalsLineAt out at pages skipped subframes dsms tail)
+  pub totals-at : (out : List ℕ) (at pages skipped subframes dsms silent tail : ℕ) → AgreeWith (TotalsLineAt out at pages skipped subframes dsms silent tail)
   pub refused-at : (out : List ℕ) (at n : ℕ) → AgreeWith (RefusedLineAt out at n)

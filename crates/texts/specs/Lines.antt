@@ -1,4 +1,4 @@
--- The lines of a page replay: document 01, "Page replay".
+-- The lines of a page replay: document 01, "Page replay", and of the last line document 02, [2].
 -- Assumes nothing.
 use Prim.Native.Nat.{ℕ}
 use Prim.Native.Char.{code}
@@ -53,10 +53,10 @@ subframeParts satellite week time = "S " of satellite ∷ " " of week ∷ " " of
 abbrev pub dsmParts : ℕ → ℕ → List Part
 dsmParts id many = "D " of id ∷ " " of many ∷ []
 
--- "pages 15 skipped 0 subframes 1 dsms 0 tail 0"
-abbrev pub totalsParts : ℕ → ℕ → ℕ → ℕ → ℕ → List Part
-totalsParts pages skipped subframes dsms tail =
-    "pages " of pages ∷ " skipped " of skipped ∷ " subframes " of subframes ∷ " dsms " of dsms ∷ " tail " of tail ∷ []
+-- Document 02, [2]: "silent subframes get their own count, `silent N`, after `dsms`", as in "pages 15 skipped 0 subframes 0 dsms 0 silent 1 tail 0".
+abbrev pub totalsParts : ℕ → ℕ → ℕ → ℕ → ℕ → ℕ → List Part
+totalsParts pages skipped subframes dsms silent tail =
+    "pages " of pages ∷ " skipped " of skipped ∷ " subframes " of subframes ∷ " dsms " of dsms ∷ " silent " of silent ∷ " tail " of tail ∷ []
 
 -- "On a refusal only `refused N` is written."
 abbrev pub refusedParts : ℕ → List Part
@@ -68,8 +68,8 @@ SubframeLine before satellite week time r after = Writes (subframeParts satellit
 abbrev pub DsmLine : List ℕ → ℕ → ℕ → ℕ → List ℕ → Type 0
 DsmLine before id many r after = Writes (dsmParts id many) before r after
 
-abbrev pub TotalsLine : List ℕ → ℕ → ℕ → ℕ → ℕ → ℕ → ℕ → List ℕ → Type 0
-TotalsLine before pages skipped subframes dsms tail r after = Writes (totalsParts pages skipped subframes dsms tail) before r after
+abbrev pub TotalsLine : List ℕ → ℕ → ℕ → ℕ → ℕ → ℕ → ℕ → ℕ → List ℕ → Type 0
+TotalsLine before pages skipped subframes dsms silent tail r after = Writes (totalsParts pages skipped subframes dsms silent tail) before r after
 
 abbrev pub RefusedLine : List ℕ → ℕ → ℕ → List ℕ → Type 0
 RefusedLine before n r after = Writes (refusedParts n) before r after
@@ -81,8 +81,9 @@ SubframeLineAt before at satellite week time r after = PutText (line (subframePa
 abbrev pub DsmLineAt : List ℕ → ℕ → ℕ → ℕ → End → List ℕ → Type 0
 DsmLineAt before at id many r after = PutText (line (dsmParts id many)) before at r after
 
-abbrev pub TotalsLineAt : List ℕ → ℕ → ℕ → ℕ → ℕ → ℕ → ℕ → End → List ℕ → Type 0
-TotalsLineAt before at pages skipped subframes dsms tail r after = PutText (line (totalsParts pages skipped subframes dsms tail)) before at r after
+abbrev pub TotalsLineAt : List ℕ → ℕ → ℕ → ℕ → ℕ → ℕ → ℕ → ℕ → End → List ℕ → Type 0
+TotalsLineAt before at pages skipped subframes dsms silent tail r after =
+    PutText (line (totalsParts pages skipped subframes dsms silent tail)) before at r after
 
 abbrev pub RefusedLineAt : List ℕ → ℕ → ℕ → End → List ℕ → Type 0
 RefusedLineAt before at n r after = PutText (line (refusedParts n)) before at r after

@@ -1,4 +1,4 @@
-// The lines that a page replay writes. Each is put at the start of the caller's 256 bytes, of which the longest takes 139; or at any place of a lent buffer
+// The lines that a page replay writes. Each is put at the start of the caller's 256 bytes, of which the longest takes 167; or at any place of a lent buffer
 // that has room for it (`.._at`).
 use crate::put;
 use crate::put::End;
@@ -55,16 +55,17 @@ pub fn dsm(out: &mut [u8; 256], id: u8, bytes: usize) -> usize
     put_end(view, b)
 }
 
-// `pages .. skipped .. subframes .. dsms .. tail ..`, the last line.
+// `pages .. skipped .. subframes .. dsms .. silent .. tail ..`, the last line.
 pub fn totals(
     out: &mut [u8; 256],
     pages: u64,
     skipped: u64,
     subframes: u64,
     dsms: u64,
+    silent: u64,
     tail: usize,
 ) -> usize
-    ensures { λ r. ⌜ TotalsLine (now (out .entry)) pages skipped subframes dsms tail r (now (out .exit)) ⌝ }
+    ensures { λ r. ⌜ TotalsLine (now (out .entry)) pages skipped subframes dsms silent tail r (now (out .exit)) ⌝ }
     ensures { λ r. ⌜ Counts r (now (out .exit)) ⌝ }
 {
     let view: &mut [u8] = out;
@@ -72,8 +73,9 @@ pub fn totals(
     let b = put_part(view, a, b" skipped ", skipped);
     let c = put_part(view, b, b" subframes ", subframes);
     let d = put_part(view, c, b" dsms ", dsms);
-    let e = put_part(view, d, b" tail ", tail as u64);
-    put_end(view, e)
+    let e = put_part(view, d, b" silent ", silent);
+    let f = put_part(view, e, b" tail ", tail as u64);
+    put_end(view, f)
 }
 
 // `refused N`.
@@ -112,12 +114,13 @@ pub fn totals_at(
     skipped: u64,
     subframes: u64,
     dsms: u64,
+    silent: u64,
     tail: usize,
 ) -> End
-    ensures { λ r. ⌜ TotalsLineAt (now (out .entry)) at pages skipped subframes dsms tail r (now (out .exit)) ⌝ }
+    ensures { λ r. ⌜ TotalsLineAt (now (out .entry)) at pages skipped subframes dsms silent tail r (now (out .exit)) ⌝ }
 {
     let mut text = [0u8; 256];
-    let many = totals(&mut text, pages, skipped, subframes, dsms, tail);
+    let many = totals(&mut text, pages, skipped, subframes, dsms, silent, tail);
     put::words(out, at, &text[..many])
 }
 

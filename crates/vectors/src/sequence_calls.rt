@@ -47,11 +47,17 @@ pub(crate) fn unchanged(held: Held) -> Called {
     }
 }
 
-fn page_found(answer: SubframeAnswer, fits: bool) -> Found {
+// The Rust knows no silent pair: its answer fits there if the recorded pair is all zeros, and a complete one if it is not.
+fn page_found(answer: SubframeAnswer, fits: bool, zeros: bool) -> Found {
     match answer {
         SubframeAnswer::Refused(n) => found::refused(n, fits),
         SubframeAnswer::Nothing => found::values(0, 0, 0, fits),
-        SubframeAnswer::Complete { week, time } => found::values(1, week as u64, time as u64, fits),
+        SubframeAnswer::Complete { week, time } => {
+            found::values(1, week as u64, time as u64, fits && !zeros)
+        }
+        SubframeAnswer::Silent { week, time } => {
+            found::values(1, week as u64, time as u64, fits && zeros)
+        }
     }
 }
 
@@ -96,11 +102,12 @@ pub(crate) fn page(
     let collector = fed.collector;
     let answer = fed.answer;
     let fits = pair_shown(collector, hkroot, mack, satellite, expected);
+    let zeros = check::same(expected, &[0; 75]);
     let mut next = held;
     next.subframe = collector;
     Called {
         held: next,
-        found: page_found(answer, fits),
+        found: page_found(answer, fits, zeros),
     }
 }
 

@@ -7,6 +7,9 @@ use std::panic::{AssertUnwindSafe, catch_unwind};
 pub enum Came {
     Nothing,
     Answer,
+    /// An answer of a pair whose 75 bytes are all zero, and of one in which that byte alone is not.
+    Silent,
+    Nearly(usize),
     Refusal(u64),
 }
 

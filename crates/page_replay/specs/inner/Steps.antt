@@ -21,6 +21,7 @@ pub record Room (r : PageReplay) (many : ℕ) : Type 0 where
   pub unused-room : r .unused ≤ many
   pub subframes-room : r .«subframes_done» ≤ many
   pub dsms-room : r .«dsms_done» ≤ many
+  pub silent-room : r .silent ≤ many
 
 -- the satellite and the time of the next page are in range
 pub record InRange (r : PageReplay) : Type 0 where

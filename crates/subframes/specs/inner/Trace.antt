@@ -8,13 +8,13 @@ use Rattle.layouts.specs.Answer.{Answer, refused, nothing}
 use Rattle.subframes.specs.inner.Page.{stateOf}
 use Rattle.subframes.specs.Trace.{FedMany}
 use Rattle.subframes.specs.declared.page.PageTaken.{PageTaken}
-use Rattle.subframes.specs.declared.page.PageTaken.the-variants.{Unused, Used, Completes}
+use Rattle.subframes.specs.declared.page.PageTaken.the-variants.{Unused, Used, Last}
 
--- whether an admitted page was its subframe's last
-abbrev pub completesOf : PageTaken → Bool
-completesOf Unused = false
-completesOf Used = false
-completesOf Completes = true
+-- whether an admitted page was its subframe's last: a pair comes out, complete or silent
+abbrev pub isLast : PageTaken → Bool
+isLast Unused = false
+isLast Used = false
+isLast Last = true
 
 -- what is answered where an entry that would be refused ends a trace
 abbrev pub endsWith : ℕ → ℕ → Answer

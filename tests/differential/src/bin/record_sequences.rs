@@ -1,6 +1,7 @@
 //! record_sequences FILE: writes recorded sequences of calls to the collectors and the MACK store, in the form of the
-//! recorded answers. Each answer is what the published Rust did, but for refused calls, which the Rust is not asked: their
-//! numbers are document 01's. The same list at each run. crates/vectors/data/sequences.md has the layout.
+//! recorded answers. Each answer is what the published Rust did, also of a silent pair, which is complete there, but for
+//! refused calls, which the Rust is not asked: their numbers are document 01's. The same list at each run.
+//! crates/vectors/data/sequences.md has the layout.
 use differential::answers::write;
 use differential::inputs::Random;
 use oracle::bitfields::{DsmHeader, DsmType, NmaStatus};
@@ -88,19 +89,18 @@ fn words(list: &mut List, pages: &mut Pages, satellites: &[u8], week: u16, subfr
 }
 
 /// Whole subframes, losses, repeats, refused pages, jumps of the clock and times that come back.
-fn subframes(list: &mut List) {
-    let mut pages = Pages::new();
+fn subframes(list: &mut List, pages: &mut Pages) {
     list.new_sequence();
-    words(list, &mut pages, &[1, 36], 1200, 2, 0);
-    words(list, &mut pages, &[5], 1200, 2, 0);
+    words(list, pages, &[1, 36], 1200, 2, 0);
+    words(list, pages, &[5], 1200, 2, 0);
     // after completion: nothing, and the view stays
-    words(list, &mut pages, &[1], 1200, 2, 12);
+    words(list, pages, &[1], 1200, 2, 12);
     // a loss: words 3 to 14 do not complete, then all of them do
-    words(list, &mut pages, &[7], 1200, 3, 3);
-    words(list, &mut pages, &[7], 1200, 3, 0);
+    words(list, pages, &[7], 1200, 3, 3);
+    words(list, pages, &[7], 1200, 3, 0);
     // the subframe before, the next week, and week 4095 into 0
     for (week, subframe) in [(1200, 2), (1201, 2), (1200, 2), (4095, 20_159), (0, 0)] {
-        words(list, &mut pages, &[2], week, subframe, 0);
+        words(list, pages, &[2], week, subframe, 0);
     }
     // refused pages between the words
     for word in 0..15 {
@@ -122,6 +122,43 @@ fn subframes(list: &mut List) {
         let first = list.random.pick(&[0, 0, 0, 0, 0, 0, 0, 30]);
         let page = list.random.bytes(5);
         pages.feed(list, &page, satellite, 7, first + 2 * word);
+    }
+}
+
+/// Words of zeros, but for one byte of the subframe's 75, by its word and its place in the page.
+fn zeros(list: &mut List, pages: &mut Pages, satellite: u8, subframe: u32, from: u32, loud: Option<(u32, usize)>) {
+    for word in from..15 {
+        let mut page = [0; 5];
+        if let Some((_, place)) = loud.filter(|(of, _)| *of == word) {
+            page[place] = 1;
+        }
+        pages.feed(list, &page, satellite, 8, 30 * subframe + 2 * word);
+    }
+}
+
+/// Silent pairs, and pairs that are silent but for one byte.
+fn silent(list: &mut List, pages: &mut Pages) {
+    // over the bytes that others left; after it nothing, and the view stays
+    zeros(list, pages, 3, 0, 0, None);
+    zeros(list, pages, 3, 0, 13, Some((14, 4)));
+    for (satellite, loud) in [(1, (0, 0)), (2, (0, 1)), (3, (7, 2)), (4, (14, 0)), (36, (14, 4))] {
+        zeros(list, pages, satellite, 1, 0, Some(loud));
+    }
+    // silent: the copy that is not zero came before its turn, or after it
+    pages.feed(list, &[1; 5], 5, 8, 62);
+    zeros(list, pages, 5, 2, 0, None);
+    pages.feed(list, &[0; 5], 6, 8, 60);
+    pages.feed(list, &[1; 5], 6, 8, 60);
+    zeros(list, pages, 6, 2, 1, None);
+    // complete: the first copy of word 0 is not zero, the second one is
+    pages.feed(list, &[1; 5], 7, 8, 60);
+    zeros(list, pages, 7, 2, 0, None);
+    // a loss; then silent between two neighbours that are not
+    zeros(list, pages, 8, 2, 1, None);
+    for word in 0..15 {
+        pages.feed(list, &[1; 5], 9, 8, 90 + 2 * word);
+        pages.feed(list, &[0; 5], 8, 8, 90 + 2 * word);
+        pages.feed(list, &[1; 5], 7, 8, 90 + 2 * word);
     }
 }
 
@@ -286,7 +323,9 @@ fn main() {
         exit(2)
     };
     let mut list = List { random: Random::new(1), bytes: Vec::new(), records: 0, refused: 0 };
-    subframes(&mut list);
+    let mut pages = Pages::new();
+    subframes(&mut list, &mut pages);
+    silent(&mut list, &mut pages);
     dsms(&mut list);
     store(&mut list);
     if let Err(e) = std::fs::write(&path, &list.bytes) {

@@ -19,9 +19,9 @@ returns : tie.Need-returns
 returns c =
     let s = c .before .before .before .before .before .before in
     let p = c .before .before .before .totals-at in
-    all-totals (s .args .pages) (s .args .skipped) (s .args .subframes) (s .args .dsms) (s .args .tail) (s .args .out .now) (p .result)
-    (omega (arith, s .fits .pages)) (omega (arith, s .fits .skipped)) (omega (arith, s .fits .subframes)) (omega (arith, s .fits .dsms))
-    (omega (arith, s .fits .tail)) (s .pre) (p .ensures) (c .end-of .ensures)
+    all-totals (s .args .pages) (s .args .skipped) (s .args .subframes) (s .args .dsms) (s .args .silent) (s .args .tail)
+    (s .args .out .now) (p .result) (omega (arith, s .fits .pages)) (omega (arith, s .fits .skipped)) (omega (arith, s .fits .subframes))
+    (omega (arith, s .fits .dsms)) (omega (arith, s .fits .silent)) (omega (arith, s .fits .tail)) (s .pre) (p .ensures) (c .end-of .ensures)
 
 pub totals-spec : {M : Type 1} → statement M
 totals-spec = tie.close (tie.spec totals-at-requires end-of-requires same-length returns)

@@ -14,6 +14,9 @@ enum-told-2 c = search needs
 enum-known-answer : tie.Need-enum-known-answer
 enum-known-answer c = search needs
 
+enum-told-3 : tie.Need-enum-told-3
+enum-told-3 c = search needs
+
 returns : tie.Need-returns
 returns c = search needs
 
@@ -23,6 +26,18 @@ returns-2 c = search needs
 returns-3 : tie.Need-returns-3
 returns-3 c = search subframe-is
 
+returns-4 : tie.Need-returns-4
+returns-4 c = search needs
+
 pub subframe-done-spec : {M : Type 1} → statement M
 subframe-done-spec =
-    tie.close (tie.spec enum-told enum-told-2 enum-known-answer returns returns-2 returns-3)
+    tie.close
+    (tie.spec
+    enum-told
+    enum-told-2
+    enum-known-answer
+    enum-told-3
+    returns
+    returns-2
+    returns-3
+    returns-4)

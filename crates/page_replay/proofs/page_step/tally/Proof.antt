@@ -54,14 +54,24 @@ add-t22 c =
     let d = c .before .before .before .before .before .before .before .before .before .before .before in
     omega (arith, dsms-few (d .before .dsm-done .result), start d .pre .1 .dsms-room)
 
+silent-in-requires : tie.Need-silent-in-requires
+silent-in-requires c κs = search needs
+
+add-t24 : tie.Need-add-t24
+add-t24 c =
+    let d = c .before .before .before .before .before .before .before .before .before .before .before .before .before in
+    omega (arith, c .before .silent-in .ensures .1, start d .pre .1 .silent-room)
+
 returns : tie.Need-returns
 returns c =
-    let d = c .before .before .before .before .before .before .before .before .before .before .before in
+    let told = c .before .before in
+    let d = told .before .before .before .before .before .before .before .before .before .before .before in
     let a = start d .args in
     λ h m e h₀ m₀ e₀.
     counted-is (state (a .«record») h₀ m₀ e₀) (a .used) (outcome (a .fed) h m) (dsmOutcome (a .passed) e) (d .later .ensures)
-    (d .before .before .subframe-done .ensures) (d .before .dsm-done .ensures) (c .before .before .before .before .before .before .before .one .ensures)
-    (c .before .before .before .before .before .one2 .ensures) (c .before .before .before .subframes-in .ensures) (c .before .dsms-in .ensures)
+    (d .before .before .subframe-done .ensures) (d .before .dsm-done .ensures) (told .before .before .before .before .before .before .before .one .ensures)
+    (told .before .before .before .before .before .one2 .ensures) (told .before .before .before .subframes-in .ensures) (told .before .dsms-in .ensures)
+    (c .before .silent-in .ensures .0)
 
 pub tally-spec : {M : Type 1} → statement M
 tally-spec =
@@ -79,4 +89,6 @@ tally-spec =
     add-t20
     dsms-in-requires
     add-t22
+    silent-in-requires
+    add-t24
     returns)

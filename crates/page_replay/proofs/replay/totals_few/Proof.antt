@@ -1,6 +1,6 @@
 -- `replay::totals_few`: one total after the other.
 -- Assumes nothing.
-use Rattle.page_replay.proofs.PageRefusals.{many-pages, many-skipped, many-used, many-unused, many-subframes, many-dsms, all-few}
+use Rattle.page_replay.proofs.PageRefusals.{many-pages, many-skipped, many-used, many-unused, many-subframes, many-dsms, many-silent, all-few}
 use Rattle.page_replay.proofs.replay.totals_few.Statement.{statement}
 use Rattle.page_replay.proofs.replay.totals_few.Tie as tie
 
@@ -23,8 +23,11 @@ returns-6 : tie.Need-returns-6
 returns-6 c = search many-dsms
 
 returns-7 : tie.Need-returns-7
-returns-7 c = search all-few
+returns-7 c = search many-silent
+
+returns-8 : tie.Need-returns-8
+returns-8 c = search all-few
 
 pub totals-few-spec : {M : Type 1} → statement M
 totals-few-spec =
-    tie.close (tie.spec returns returns-2 returns-3 returns-4 returns-5 returns-6 returns-7)
+    tie.close (tie.spec returns returns-2 returns-3 returns-4 returns-5 returns-6 returns-7 returns-8)

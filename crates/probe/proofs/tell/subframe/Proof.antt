@@ -1,6 +1,6 @@
 -- `tell::subframe`.
 -- Assumes nothing.
-use Rattle.probe.proofs.Telling.{page-refused, page-nothing, page-complete}
+use Rattle.probe.proofs.Telling.{page-refused, page-nothing, page-complete, page-silent}
 use borrow.Author.Needs.{needs}
 use Rattle.probe.proofs.tell.subframe.Statement.{statement}
 use Rattle.probe.proofs.tell.subframe.Tie as tie
@@ -29,6 +29,18 @@ cast-given-2 c = search needs
 given-requires : tie.Need-given-requires
 given-requires c κs = search needs
 
+enum-known-answer-3 : tie.Need-enum-known-answer-3
+enum-known-answer-3 c = search needs
+
+cast-given-3 : tie.Need-cast-given-3
+cast-given-3 c = search needs
+
+cast-given-4 : tie.Need-cast-given-4
+cast-given-4 c = search needs
+
+given-requires-2 : tie.Need-given-requires-2
+given-requires-2 c κs = search needs
+
 returns : tie.Need-returns
 returns c = search page-refused
 
@@ -37,6 +49,9 @@ returns-2 c = search page-nothing
 
 returns-3 : tie.Need-returns-3
 returns-3 c = search page-complete
+
+returns-4 : tie.Need-returns-4
+returns-4 c = search page-silent
 
 pub subframe-spec : {M : Type 1} → statement M
 subframe-spec =
@@ -50,6 +65,11 @@ subframe-spec =
     cast-given
     cast-given-2
     given-requires
+    enum-known-answer-3
+    cast-given-3
+    cast-given-4
+    given-requires-2
     returns
     returns-2
-    returns-3)
+    returns-3
+    returns-4)

@@ -15,12 +15,16 @@ Inv-loop hkroot₀ mack₀ dsm₀ piece out₀ job₀ left₀ hkroot mack dsm ou
 abbrev μ-loop : tie.MeasureT-loop
 μ-loop hkroot₀ mack₀ dsm₀ piece out₀ job₀ left₀ hkroot mack dsm out job left = left
 
--- where the turn began, and its call of the job
-abbrev begins : tie.After-struct-known2 Inv-loop μ-loop → tie.At-loop Inv-loop μ-loop
-begins c = c .before .before .before .before .before .before .before .before .before .before .before .before .before .before .before .before .before .before
+-- where a turn began, from its call of the job
+abbrev begins : tie.After-step Inv-loop μ-loop → tie.At-loop Inv-loop μ-loop
+begins c = c .before .before .before .before .before .before .before
 
+-- that call, from the end of a turn, and where the job stops
 abbrev calls : tie.After-struct-known2 Inv-loop μ-loop → tie.After-step Inv-loop μ-loop
 calls c = c .before .before .before .before .before .before .before .before .before .before .before
+
+abbrev stops : tie.Then1 Inv-loop μ-loop → tie.After-step Inv-loop μ-loop
+stops c = c .before .before .before .before .before .before .before .before .before .before
 
 loop-holds : tie.Need-loop-holds Inv-loop μ-loop
 loop-holds c = search needs
@@ -41,16 +45,16 @@ step-requires : tie.Need-step-requires Inv-loop μ-loop
 step-requires c κs = search needs
 
 same-length : tie.Need-same-length Inv-loop μ-loop
-same-length c = omega arith
+same-length c = stops c .step .kept .1 .0 ∙ begins (stops c) .loop .inv .1
 
 same-length-2 : tie.Need-same-length-2 Inv-loop μ-loop
-same-length-2 c = omega arith
+same-length-2 c = stops c .step .kept .1 .1 .0 ∙ begins (stops c) .loop .inv .2
 
 same-length-3 : tie.Need-same-length-3 Inv-loop μ-loop
-same-length-3 c = omega arith
+same-length-3 c = stops c .step .kept .1 .1 .1 .0 ∙ begins (stops c) .loop .inv .3
 
 same-length-4 : tie.Need-same-length-4 Inv-loop μ-loop
-same-length-4 c = omega arith
+same-length-4 c = stops c .step .kept .1 .1 .1 .1 .1 .0 ∙ begins (stops c) .loop .inv .4
 
 returns : tie.Need-returns Inv-loop μ-loop
 returns c = search needs
@@ -63,11 +67,11 @@ loop-less c = omega arith
 
 loop-again : tie.Need-loop-again Inv-loop μ-loop
 loop-again c = (
-  omega (arith, begins c .loop .inv .0),
-  calls c .step .kept .1 .0 ∙ begins c .loop .inv .1,
-  calls c .step .kept .1 .1 .0 ∙ begins c .loop .inv .2,
-  calls c .step .kept .1 .1 .1 .0 ∙ begins c .loop .inv .3,
-  calls c .step .kept .1 .1 .1 .1 .1 .0 ∙ begins c .loop .inv .4,
+  omega (arith, begins (calls c) .loop .inv .0),
+  calls c .step .kept .1 .0 ∙ begins (calls c) .loop .inv .1,
+  calls c .step .kept .1 .1 .0 ∙ begins (calls c) .loop .inv .2,
+  calls c .step .kept .1 .1 .1 .0 ∙ begins (calls c) .loop .inv .3,
+  calls c .step .kept .1 .1 .1 .1 .1 .0 ∙ begins (calls c) .loop .inv .4,
 )
 
 same-length-5 : tie.Need-same-length-5 Inv-loop μ-loop

@@ -6,7 +6,8 @@ use native.Mathlib.Omega.{arith}
 use borrow.Author.Needs.{needs}
 use Rattle.subframes.specs.inner.Page.{stateOf}
 use Rattle.subframes.specs.SubframePromises.{state}
-use Rattle.subframes.proofs.Entries.{Left, Turn, Taken, turn-first, turn-none, turn-ends, turn-asks, turn-time, turn-sound, turn-completes, turn-goes-on}
+use Rattle.subframes.proofs.Entries.{Left, Turn, Taken, turn-first, turn-none, turn-ends, turn-asks, turn-time, turn-satellite}
+use Rattle.subframes.proofs.Entries.{turn-sound, turn-last, turn-goes-on}
 use Rattle.subframes.proofs.trace.feed_entries.Statement.{statement}
 use Rattle.subframes.proofs.trace.feed_entries.Tie as tie
 
@@ -47,7 +48,7 @@ taken c =
     }
 
 -- the turn that a later context is in
-abbrev then : tie.After-completes Inv-loop μ-loop → Taken
+abbrev then : tie.After-is-last Inv-loop μ-loop → Taken
 then c = taken (c .before .before .before .before .before .before)
 
 loop-holds : tie.Need-loop-holds Inv-loop μ-loop
@@ -105,30 +106,33 @@ cast-subframe c = let w = taken (c .before .before .before .before .before) in o
 add-n : tie.Need-add-n Inv-loop μ-loop
 add-n c = omega arith
 
-completes-requires : tie.Need-completes-requires Inv-loop μ-loop
-completes-requires c κs = search needs
+is-last-requires : tie.Need-is-last-requires Inv-loop μ-loop
+is-last-requires c κs = search needs
 
 answer-of-requires : tie.Need-answer-of-requires Inv-loop μ-loop
-answer-of-requires c κs = search needs
+answer-of-requires c κs =
+    let w = then (c .before .before .before) in
+    let s = turn-satellite (w .turn) (w .passed) in
+    (turn-sound w .h540, turn-sound w .m2160, s .0, s .1)
 
 fed-requires-2 : tie.Need-fed-requires-2 Inv-loop μ-loop
 fed-requires-2 c κs = search needs
 
 same-length-3 : tie.Need-same-length-3 Inv-loop μ-loop
-same-length-3 c = let w = then (c .before .before .before) in omega (arith, turn-sound w .h540, w .turn .left .first .h540)
+same-length-3 c = let w = then (c .before .before .before .before .before) in omega (arith, turn-sound w .h540, w .turn .left .first .h540)
 
 same-length-4 : tie.Need-same-length-4 Inv-loop μ-loop
-same-length-4 c = let w = then (c .before .before .before) in omega (arith, turn-sound w .m2160, w .turn .left .first .m2160)
+same-length-4 c = let w = then (c .before .before .before .before .before) in omega (arith, turn-sound w .m2160, w .turn .left .first .m2160)
 
 returns-2 : tie.Need-returns-2 Inv-loop μ-loop
-returns-2 c = let b = c .before .before in
-    turn-completes (then (b .before)) (sym (b .before .completes .ensures) ∙ b .if2 .taken) (c .before .answer-of .ensures) (c .fed2 .ensures _ _)
+returns-2 c = let b = c .before .before .before .before in
+    turn-last (then (b .before)) (sym (b .before .is-last .ensures) ∙ b .if2 .taken) (c .before .answer-of .ensures) (c .fed2 .ensures _ _)
 
 loop-less : tie.Need-loop-less Inv-loop μ-loop
 loop-less c = omega arith
 
 loop-again : tie.Need-loop-again Inv-loop μ-loop
-loop-again c = turn-goes-on (then (c .before)) (sym (c .before .completes .ensures) ∙ c .if2 .left)
+loop-again c = turn-goes-on (then (c .before)) (sym (c .before .is-last .ensures) ∙ c .if2 .left)
 
 fed-requires-3 : tie.Need-fed-requires-3 Inv-loop μ-loop
 fed-requires-3 c κs = search needs
@@ -166,7 +170,7 @@ feed-entries-spec =
     take-page-requires
     cast-subframe
     add-n
-    completes-requires
+    is-last-requires
     answer-of-requires
     fed-requires-2
     same-length-3

@@ -1,4 +1,4 @@
-//! replays FILES SEED COMMAND..: the replay program, run by COMMAND with its three arguments, against document 01's page
+//! replays FILES SEED COMMAND..: the replay program, run by COMMAND with its three arguments, against the documents' page
 //! rules over the published Rust: the same arguments and files, the same output, byte for byte. Ends with status 1 at the
 //! first difference, with the smallest file that shows it.
 use differential::inputs::Random;
@@ -68,7 +68,7 @@ fn main() {
         fail("usage: replays FILES SEED COMMAND..")
     }
     let mut random = Random::new(seed);
-    let (mut pages, mut subframes, mut dsms, mut refused) = (0, 0, 0, 0);
+    let (mut pages, mut subframes, mut silent, mut dsms, mut refused) = (0, 0, 0, 0, 0);
     for _ in 0..files {
         let (arguments, input) = (source::arguments(&mut random), source::file(&mut random));
         let expected = output(&arguments, &input);
@@ -82,14 +82,16 @@ fn main() {
         }
         pages += input.len() / PAGE;
         subframes += expected.lines().filter(|line| line.starts_with('S')).count();
+        silent += expected.split(' ').skip_while(|word| *word != "silent").nth(1).map_or(0, |n| n.parse().unwrap());
         dsms += expected.lines().filter(|line| line.starts_with('D')).count();
         refused += usize::from(expected.starts_with("refused"));
     }
     println!(
-        "seed {seed}, {files} files, {refused} of them refused, {pages} pages, {subframes} subframes, {dsms} DSMs"
+        "seed {seed}, {files} files, {refused} of them refused, {pages} pages, {subframes} subframes, \
+         {silent} silent ones, {dsms} DSMs"
     );
     println!("compared with the Rust: {files} files, 0 differences");
-    if subframes == 0 || dsms == 0 || refused == 0 {
+    if subframes == 0 || silent == 0 || dsms == 0 || refused == 0 {
         println!("replays: too few files for every kind of line to come up");
         exit(1)
     }

@@ -1,4 +1,5 @@
-//! Document 01's page rules over the published `CollectSubframe` and `CollectDsm`: what the program has to write.
+//! Document 01's page rules, and request 2 of document 02, over the published `CollectSubframe` and `CollectDsm`: what the
+//! program has to write.
 use oracle::bitfields::DsmHeader;
 use oracle::dsm::CollectDsm;
 use oracle::subframe::CollectSubframe;
@@ -59,12 +60,14 @@ fn replay(satellite: u8, mut week: u16, mut time: u32, input: &[u8]) -> String {
     let svn = Svn::try_from(satellite).unwrap();
     let (mut subframe, mut dsm) = (CollectSubframe::new(), CollectDsm::new());
     let mut text = String::new();
-    let (mut skipped, mut subframes, mut dsms) = (0, 0, 0);
+    let (mut skipped, mut subframes, mut dsms, mut silent) = (0, 0, 0, 0);
     for page in input.chunks_exact(PAGE) {
         match osnma(page) {
             None => skipped += 1,
-            Some(bytes) => {
-                if let Some((hkroot, _, gst)) = subframe.feed(&bytes, svn, Gst::new(week, time)) {
+            Some(bytes) => match subframe.feed(&bytes, svn, Gst::new(week, time)) {
+                None => {}
+                Some((hkroot, mack, _)) if *hkroot == [0; 15] && *mack == [0; 60] => silent += 1,
+                Some((hkroot, _, gst)) => {
                     subframes += 1;
                     writeln!(text, "S {satellite} {} {}", gst.wn(), gst.tow()).unwrap();
                     let block = hkroot[2..].try_into().unwrap();
@@ -73,7 +76,7 @@ fn replay(satellite: u8, mut week: u16, mut time: u32, input: &[u8]) -> String {
                         writeln!(text, "D {} {}", dsm.id(), dsm.data().len()).unwrap();
                     }
                 }
-            }
+            },
         }
         time += 2;
         if time >= 604_800 {
@@ -82,6 +85,7 @@ fn replay(satellite: u8, mut week: u16, mut time: u32, input: &[u8]) -> String {
         }
     }
     let (pages, tail) = (input.len() / PAGE, input.len() % PAGE);
-    writeln!(text, "pages {pages} skipped {skipped} subframes {subframes} dsms {dsms} tail {tail}").unwrap();
+    writeln!(text, "pages {pages} skipped {skipped} subframes {subframes} dsms {dsms} silent {silent} tail {tail}")
+        .unwrap();
     text
 }

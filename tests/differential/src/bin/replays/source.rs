@@ -1,4 +1,4 @@
-//! Generated files: subframes that carry DSMs, with alert pages, garbage, losses and repeats among them.
+//! Generated files: subframes that carry DSMs and silent ones, with alert pages, garbage, losses and repeats among them.
 use crate::model::PAGE;
 use differential::inputs::Random;
 
@@ -40,10 +40,23 @@ fn hkroots(random: &mut Random) -> Vec<Vec<u8>> {
         .collect()
 }
 
-fn subframe(random: &mut Random, hkroot: &[u8], trouble: u64, file: &mut Vec<u8>) {
-    for byte in hkroot {
-        let mack = random.bytes(4);
-        let good = page(random, [*byte, mack[0], mack[1], mack[2], mack[3]]);
+/// The fields of a subframe with that HKROOT, its MACK arbitrary.
+fn fields(random: &mut Random, hkroot: &[u8]) -> [[u8; 5]; 15] {
+    std::array::from_fn(|word| std::array::from_fn(|k| if k == 0 { hkroot[word] } else { random.number() as u8 }))
+}
+
+/// The fields of a silent subframe, but for one byte in every third.
+fn quiet(random: &mut Random) -> [[u8; 5]; 15] {
+    let mut fields = [[0; 5]; 15];
+    if random.below(3) == 0 {
+        fields[random.below(15) as usize][random.below(5) as usize] = 1 << random.below(8);
+    }
+    fields
+}
+
+fn subframe(random: &mut Random, fields: [[u8; 5]; 15], trouble: u64, file: &mut Vec<u8>) {
+    for field in fields {
+        let good = page(random, field);
         if random.below(1000) >= trouble {
             file.extend(good);
             continue;
@@ -70,10 +83,15 @@ pub fn file(random: &mut Random) -> Vec<u8> {
         if random.below(3) == 0 {
             blocks.reverse();
         }
+        let quiet_ones = random.pick(&[0, 0, 2, 8]);
         for hkroot in &blocks {
-            subframe(random, hkroot, trouble, &mut file);
-            if random.below(12) == 0 {
-                subframe(random, hkroot, trouble, &mut file);
+            for _ in 0..random.pick(&[1, 1, 1, 1, 1, 1, 1, 1, 1, 1, 1, 2]) {
+                let fields = fields(random, hkroot);
+                subframe(random, fields, trouble, &mut file);
+            }
+            while random.below(16) < quiet_ones {
+                let fields = quiet(random);
+                subframe(random, fields, trouble, &mut file);
             }
         }
     }

@@ -4,6 +4,7 @@ use differential::inputs::Random;
 use differential::published::silence_panics;
 use differential::sequence::{Came, Pair, caught, hex, refusal, report};
 use probe::Told;
+use std::collections::BTreeMap;
 use std::process::exit;
 
 mod dsm;
@@ -20,28 +21,34 @@ struct Count {
     calls: u64,
     nothing: u64,
     answers: u64,
+    /// Of the answers: silent pairs, and pairs with one byte that is not zero, by its number.
+    silent: u64,
+    nearly: BTreeMap<usize, u64>,
     refusals: [u64; 13],
 }
 
 impl Count {
     fn add(&mut self, came: Came) {
         self.calls += 1;
+        self.answers += u64::from(matches!(came, Came::Answer | Came::Silent | Came::Nearly(_)));
         match came {
             Came::Nothing => self.nothing += 1,
-            Came::Answer => self.answers += 1,
+            Came::Answer => {}
+            Came::Silent => self.silent += 1,
+            Came::Nearly(place) => *self.nearly.entry(place).or_default() += 1,
             Came::Refusal(number) => self.refusals[number as usize] += 1,
         }
     }
 
     fn print(&self, name: &str) {
-        let Count { calls, nothing, answers, refusals } = self;
+        let Count { calls, nothing, answers, refusals, .. } = self;
         let refused: Vec<String> =
             (1..13).filter(|n| refusals[*n] > 0).map(|n| format!("{n}: {}", refusals[n])).collect();
         println!("{name:<12}{calls:>12}{answers:>12}{nothing:>12}  refused {}", refused.join(", "));
     }
 }
 
-/// Runs sequences until there are `calls` calls, and says how many there were; each refusal number named must come up.
+/// Runs sequences until there are `calls` calls, and counts what they came to; each refusal number named must come up.
 fn run<P: Pair, S>(
     name: &str,
     calls: u64,
@@ -49,7 +56,7 @@ fn run<P: Pair, S>(
     new: impl Fn(&mut Random) -> S,
     next: impl Fn(&mut S, &mut Random) -> P::Call,
     refusals: &[usize],
-) -> u64 {
+) -> Count {
     let mut count = Count::default();
     while count.calls < calls {
         // half of the sequences start with zeros in the lent memory, as the Rust does
@@ -74,7 +81,17 @@ fn run<P: Pair, S>(
         println!("{name}: some kind of answer never came up");
         exit(1)
     }
-    count.calls
+    count
+}
+
+/// How many pairs were silent, which the Rust calls complete, and how many but for one byte: each of the 75 must have been it.
+fn silent(pairs: &Count) {
+    let nearly: u64 = pairs.nearly.values().sum();
+    println!("of {} pairs {} were silent, {nearly} but for one byte", pairs.answers, pairs.silent);
+    if pairs.silent == 0 || pairs.nearly.len() != 75 {
+        println!("subframe: no pair was silent, or one of the 75 bytes was never the only one that is not zero");
+        exit(1)
+    }
 }
 
 /// One satellite's count, which the Rust has not as a function: all counts and words, against document 01.
@@ -107,7 +124,7 @@ fn main() {
     println!("{:<12}{:>12}{:>12}{:>12}", "collector", "calls", "answers", "nothing");
     words();
     let random = &mut Random::new(seed);
-    let mut ran = run::<subframe::Subframes, _>(
+    let pairs = run::<subframe::Subframes, _>(
         "subframe",
         calls / 2,
         random,
@@ -115,8 +132,9 @@ fn main() {
         subframe::Source::call,
         &[1, 2, 3, 4, 12],
     );
-    ran += run::<dsm::Dsms, _>("dsm", calls / 3, random, dsm::Source::new, dsm::Source::call, &[1, 12]);
-    ran += run::<store::Stores, _>(
+    silent(&pairs);
+    let blocks = run::<dsm::Dsms, _>("dsm", calls / 3, random, dsm::Source::new, dsm::Source::call, &[1, 12]);
+    let messages = run::<store::Stores, _>(
         "mack store",
         calls / 4,
         random,
@@ -124,5 +142,6 @@ fn main() {
         store::Source::call,
         &[1, 2, 3, 4, 7, 10, 12],
     );
+    let ran = pairs.calls + blocks.calls + messages.calls;
     println!("compared with the Rust: {ran} calls, 0 differences");
 }

@@ -18,6 +18,9 @@ pub struct Page {
     when: When,
 }
 
+/// What the Rust hands out of a subframe.
+type Bytes = ([u8; 15], [u8; 60]);
+
 /// What makes a record a bad one.
 #[derive(Clone, Copy, Debug)]
 enum Bad {
@@ -94,12 +97,12 @@ pub struct Subframes {
     zeros: bool,
     /// The Rust's week and subframe, and what it handed out since they changed.
     at: (u64, u64),
-    out: Vec<Option<([u8; 15], [u8; 60])>>,
+    out: Vec<Option<Bytes>>,
     calls: u64,
 }
 
 impl Subframes {
-    /// One admitted page at the Rust: the answer that document 01 makes of it.
+    /// One admitted page at the Rust: the answer that document 01 makes of it, and request 2 of a pair of zeros.
     fn ask(&mut self, page: &Page) -> Result<Told, String> {
         let When { satellite, week, time } = page.when;
         let bytes: &[u8; 5] = page.bytes[..].try_into().unwrap();
@@ -117,9 +120,25 @@ impl Subframes {
             None => Told::NOTHING,
             Some((h, m, gst)) => {
                 self.out[usize::from(satellite) - 1] = Some((h, m));
-                Told::given(gst.wn().into(), gst.tow().into(), 0)
+                let silent = h == [0; 15] && m == [0; 60];
+                Told::given(gst.wn().into(), gst.tow().into(), silent.into())
             }
         })
+    }
+
+    /// What an answer came to that was the expected one, at a page of that satellite.
+    fn came(&self, answer: Told, satellite: u8) -> Came {
+        if answer.kind != 1 {
+            return Came::Nothing;
+        }
+        let (hkroot, mack) = self.out[usize::from(satellite) - 1].expect("a pair");
+        let pair = [&hkroot[..], &mack[..]].concat();
+        let loud: Vec<usize> = (0..75).filter(|place| pair[*place] != 0).collect();
+        match loud[..] {
+            [] => Came::Silent,
+            [place] => Came::Nearly(place),
+            _ => Came::Answer,
+        }
     }
 
     fn feed(&mut self, page: &Page, lent: Lent) -> Result<Came, String> {
@@ -141,7 +160,22 @@ impl Subframes {
             return Ok(Came::Refusal(number));
         }
         self.record = called.collector;
-        Ok(if expected.kind == 1 { Came::Answer } else { Came::Nothing })
+        Ok(self.came(expected, page.when.satellite))
+    }
+
+    /// A trace at the Rust, page by page: the answer, and how many pages were taken.
+    fn ask_all(&mut self, pages: &[Page]) -> Result<(Told, usize), String> {
+        for (consumed, page) in pages.iter().enumerate() {
+            let number = page_refusal(page, RIGHT);
+            if number != 0 {
+                return Ok((if consumed == 0 { Told::refused(number) } else { Told::NOTHING }, consumed));
+            }
+            let answer = self.ask(page)?;
+            if answer.kind == 1 {
+                return Ok((answer, consumed + 1));
+            }
+        }
+        Ok((Told::NOTHING, pages.len()))
     }
 
     fn feed_all(&mut self, pages: &[Page], more: usize, lent: Lent) -> Result<Came, String> {
@@ -153,26 +187,10 @@ impl Subframes {
         let number =
             refusal([(1, more != 0), (1, lent.hkroot != HKROOT), (1, lent.mack != MACK), (12, lent.bad.is_some())]);
         let before = (record, self.hkroot.clone(), self.mack.clone());
-        let (mut expected, mut consumed) = (Told::NOTHING, 0);
-        if number != 0 {
-            expected = Told::refused(number);
-        } else {
-            for page in pages {
-                let number = page_refusal(page, RIGHT);
-                if number != 0 {
-                    expected = if consumed == 0 { Told::refused(number) } else { Told::NOTHING };
-                    break;
-                }
-                expected = self.ask(page)?;
-                consumed += 1;
-                if expected.kind == 1 {
-                    break;
-                }
-            }
-        }
+        let (expected, consumed) = if number == 0 { self.ask_all(pages)? } else { (Told::refused(number), 0) };
         let buffers = Buffers { hkroot: &mut self.hkroot[..lent.hkroot], mack: &mut self.mack[..lent.mack] };
         let traced = probe::subframe_feed_all(record, buffers, &trace);
-        if (traced.answer, traced.consumed) != (expected, consumed) {
+        if (traced.answer, traced.consumed) != (expected, consumed as u64) {
             let (answer, many) = (traced.answer, traced.consumed);
             return Err(format!("the port answers {answer:?} after {many}, expected {expected:?} after {consumed}"));
         }
@@ -181,7 +199,7 @@ impl Subframes {
             return Ok(Came::Refusal(expected.first));
         }
         self.record = traced.collector;
-        Ok(if expected.kind == 1 { Came::Answer } else { Came::Nothing })
+        Ok(self.came(expected, pages[..consumed].last().map_or(0, |page| page.when.satellite)))
     }
 
     /// The record and the memory against the Rust's own fields.
@@ -363,13 +381,18 @@ fn simpler_pages(page: &Page) -> Vec<Page> {
     pages
 }
 
-/// Pages of a few satellites, nearly in order, disturbed as often as `trouble` (of 256) says.
+/// Pages of a few satellites, nearly in order, disturbed as often as `trouble` (of 256) says. As often as `quiet` (of 256)
+/// says, a satellite sends zeros in a subframe, or zeros but for one byte.
 pub struct Source {
     satellites: Vec<u8>,
     week: u16,
     time: u32,
     next: usize,
     trouble: u64,
+    quiet: u64,
+    /// The present subframe, and what each satellite sends in it: random bytes, or zeros but for that byte of the 75.
+    subframe: (u16, u32),
+    zeros: [Option<usize>; 36],
     seen: Vec<(u16, u32)>,
     last: Option<Page>,
 }
@@ -382,7 +405,24 @@ impl Source {
         let week = random.pick(&[0, 0, 1, 1200, 4094, 4095]);
         let time = random.pick(&[0, 1, 30, 345_600, 604_740, 604_770, 604_771]);
         let trouble = random.pick(&[0, 1, 2, 5, 12, 40, 120]);
-        Source { satellites, week, time, next: 0, trouble, seen: Vec::new(), last: None }
+        let quiet = random.pick(&[0, 64, 128, 256]);
+        let (subframe, zeros) = ((week, u32::MAX), [None; 36]);
+        Source { satellites, week, time, next: 0, trouble, quiet, subframe, zeros, seen: Vec::new(), last: None }
+    }
+
+    fn bytes(&mut self, random: &mut Random, when: When) -> Vec<u8> {
+        let subframe = (when.week, when.time / 30);
+        if std::mem::replace(&mut self.subframe, subframe) != subframe {
+            // there is no byte 75: the satellite is silent
+            let zeros = |random: &mut Random| if random.below(2) == 0 { 75 } else { random.below(75) as usize };
+            self.zeros = [(); 36].map(|()| (random.below(256) < self.quiet).then(|| zeros(random)));
+        }
+        let Some(loud) = self.zeros[usize::from(when.satellite) - 1] else { return random.bytes(5) };
+        let mut bytes = vec![0; 5];
+        if loud / 5 == (when.time / 2 % 15) as usize {
+            bytes[loud % 5] = 1 << random.below(8);
+        }
+        bytes
     }
 
     fn page(&mut self, random: &mut Random) -> Page {
@@ -392,7 +432,21 @@ impl Source {
             self.next = 0;
             self.pass(2);
         }
-        Page { bytes: random.bytes(5), when }
+        Page { bytes: self.bytes(random, when), when }
+    }
+
+    /// The page again or another word of its subframe, with the same bytes, others or zeros.
+    fn copy(random: &mut Random, page: &Page) -> Page {
+        let mut copy = page.clone();
+        if random.below(2) == 0 {
+            copy.when.time = page.when.time / 30 * 30 + 2 * random.below(15) as u32;
+        }
+        match random.below(3) {
+            0 => copy.bytes = random.bytes(5),
+            1 => copy.bytes = vec![0; 5],
+            _ => {}
+        }
+        copy
     }
 
     fn pass(&mut self, seconds: i64) {
@@ -455,6 +509,10 @@ impl Source {
         let mut pages: Vec<Page> = (0..many).map(|_| self.page(random)).collect();
         if random.below(4) == 0 && !pages.is_empty() {
             let place = random.below(pages.len() as u64) as usize;
+            pages.insert(place, Source::copy(random, &pages[place]));
+        }
+        if random.below(4) == 0 && !pages.is_empty() {
+            let place = random.below(pages.len() as u64) as usize;
             let (mut page, _) = self.refused(random);
             page.bytes.resize(5, 0);
             pages[place] = page;
@@ -483,12 +541,8 @@ impl Source {
                     return Call { what: What::Page(page), lent };
                 }
                 _ => {
-                    // a repeat, with the same bytes or others
-                    if let Some(mut page) = self.last.clone() {
-                        if random.below(2) == 0 {
-                            page.bytes = random.bytes(5);
-                        }
-                        return Call { what: What::Page(page), lent: RIGHT };
+                    if let Some(page) = &self.last {
+                        return Call { what: What::Page(Source::copy(random, page)), lent: RIGHT };
                     }
                 }
             }

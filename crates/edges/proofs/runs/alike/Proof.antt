@@ -1,19 +1,19 @@
--- `runs::zeros`: as many pages as asked; the lent bytes stay as many.
+-- `runs::alike`: as many pages as asked; the lent bytes stay as many.
 -- Assumes nothing.
 use mathlib.Core.Path.{_≡_}
 use Prim.Native.Nat.{_-_}
 use lib.ListN.{length}
 use native.Mathlib.Omega.{arith}
 use borrow.Author.Needs.{needs}
-use Rattle.edges.proofs.runs.zeros.Statement.{statement}
-use Rattle.edges.proofs.runs.zeros.Tie as tie
+use Rattle.edges.proofs.runs.alike.Statement.{statement}
+use Rattle.edges.proofs.runs.alike.Tie as tie
 
 abbrev Inv-loop : tie.InvT-loop
-Inv-loop hkroot₀ mack₀ dsm₀ is-alert many seen₀ i₀ hkroot mack dsm seen i =
+Inv-loop hkroot₀ mack₀ dsm₀ last is-alert many seen₀ i₀ hkroot mack dsm seen i =
     (length hkroot ≡ length hkroot₀) × (length mack ≡ length mack₀) × (length dsm ≡ length dsm₀)
 
 abbrev μ-loop : tie.MeasureT-loop
-μ-loop hkroot₀ mack₀ dsm₀ is-alert many seen₀ i₀ hkroot mack dsm seen i = many - i
+μ-loop hkroot₀ mack₀ dsm₀ last is-alert many seen₀ i₀ hkroot mack dsm seen i = many - i
 
 loop-holds : tie.Need-loop-holds Inv-loop μ-loop
 loop-holds c = search needs
@@ -42,8 +42,8 @@ same-length-3 c = omega arith
 returns : tie.Need-returns Inv-loop μ-loop
 returns c = search needs
 
-pub zeros-spec : {M : Type 1} → statement M
-zeros-spec =
+pub alike-spec : {M : Type 1} → statement M
+alike-spec =
     tie.close
     (tie.spec
     Inv-loop
