@@ -172,21 +172,27 @@ module _ (w : Taken) where
   abbrev answer : PageTaken → Answer
   answer r = answerOf r (e .week) (e .time / 30) (isSilent (w .hkroot) (w .mack) (e .satellite - 1))
 
-  pub turn-last : {x : FedMany} {a : Answer} → isLast (w .r) ≡ true → a ≡ answer (w .r)
+  -- whether its satellite's bytes are zeros
+  abbrev silentThen : Bool
+  silentThen = isSilent (w .hkroot) (w .mack) (e .satellite - 1)
+
+  pub turn-last : {x : FedMany} {a : Answer} {b : Bool} → isLast (w .r) ≡ true → b ≡ silentThen → a ≡ outOf b (e .week) (e .time / 30)
       → x ≡ record { state = then; answer = a; consumed = t .k + 1 } → x ≡ feedEach 0 (t .s₀) (entries (t .trace))
-  turn-last {a = a} c ea ex =
-      let g = is-gives (w .r) c in
-      let whole = each-completes (t .k) (t .s) (page t) (later t) (w .fed .fed) (g .1) ∙ ahead t in
+  turn-last {a = a} c eb ea ex =
+      let ea = ea ∙ ap (λ (y : Bool). outOf y (e .week) (e .time / 30)) eb in
+      let g = either silentThen in
+      let same = is-out (w .r) c in
+      let whole = each-completes (t .k) (t .s) (page t) (later t) (w .fed .fed) (same ∙ g .1) ∙ ahead t in
       ex ∙ ap (λ (y : Answer). record { state = then; answer = y; consumed = t .k + 1 }) (ea ∙ g .1) ∙ whole
     where
       either : (b : Bool) → (l : List ℕ) × (outOf b (e .week) (e .time / 30) ≡ gives l)
       either true = (_, refl)
       either false = (_, refl)
 
-      is-gives : (r : PageTaken) → isLast r ≡ true → (l : List ℕ) × (answer r ≡ gives l)
-      is-gives Unused c = let z : _≡_ {A = ℕ} 0 1 = cc in absurd (omega arith)
-      is-gives Used c = let z : _≡_ {A = ℕ} 0 1 = cc in absurd (omega arith)
-      is-gives Last c = either (isSilent (w .hkroot) (w .mack) (e .satellite - 1))
+      is-out : (r : PageTaken) → isLast r ≡ true → answer r ≡ outOf silentThen (e .week) (e .time / 30)
+      is-out Unused c = let z : _≡_ {A = ℕ} 0 1 = cc in absurd (omega arith)
+      is-out Used c = let z : _≡_ {A = ℕ} 0 1 = cc in absurd (omega arith)
+      is-out Last c = refl
 
   pub turn-sound : Sound then
   turn-sound = subst (λ (x : Fed). Sound (x .state)) (sym (w .fed .fed)) (sound-fed (t .s) (page t) (t .left .fine))

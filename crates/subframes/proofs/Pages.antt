@@ -265,15 +265,16 @@ unfolding answerAt
 answer-less n week subframe b ne = rw (ne-eqb n 15 ne)
 
 -- a pair comes out
-module _ (week subframe : ℕ) {a b : Bool} (e : a ≡ b) where
-  pub out-silent : a ≡ true → silent week subframe ≡ outOf b week subframe
-  out-silent h = rw (← e, h)
+module _ (week subframe : ℕ) {b : Bool} where
+  pub out-silent : b ≡ true → silent week subframe ≡ outOf b week subframe
+  out-silent h = rw h
 
-  pub out-complete : a ≡ false → complete week subframe ≡ outOf b week subframe
-  out-complete h = rw (← e, h)
+  pub out-complete : b ≡ false → complete week subframe ≡ outOf b week subframe
+  out-complete h = rw h
 
-pub answer-last : (week subframe : ℕ) (b : Bool) {r : PageTaken} {a : Answer} → r ≡ Last → a ≡ outOf b week subframe → a ≡ answerOf r week subframe b
-answer-last week subframe b e h = rw e h
+pub answer-last :
+    (week subframe : ℕ) (b : Bool) {r : PageTaken} {a : Answer} {x : Bool} → r ≡ Last → x ≡ b → a ≡ outOf x week subframe → a ≡ answerOf r week subframe b
+answer-last week subframe b er ex ea = rw er (ea ∙ ap (λ (y : Bool). outOf y week subframe) ex)
 
 module _ (s : State) (bytes : List ℕ) (i w : ℕ) where
   pub used-is :

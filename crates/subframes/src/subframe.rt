@@ -210,20 +210,19 @@ fn refuses(
     gst::refuses(satellite as u64, week as u64, time as u64)
 }
 
-// The satellite's pair comes out: silent where it is zeros alone, else complete.
-fn pair(hkroot: &[u8], mack: &[u8], i: usize, week: u16, subframe: u16) -> SubframeAnswer
-    requires { ⌜ (length (now hkroot) ≡ 540) × (length (now mack) ≡ 2160) × (i < 36) ⌝ }
-    ensures { λ r. ⌜ meaning-subframe r ≡ outOf (isSilent (now (hkroot .entry)) (now (mack .entry)) i) week subframe ⌝ }
+// A pair comes out: silent or complete.
+pub(crate) fn out_of(silent: bool, week: u16, subframe: u16) -> SubframeAnswer
+    ensures { λ r. ⌜ meaning-subframe r ≡ outOf silent week subframe ⌝ }
 {
     let time = 30 * subframe as u32;
-    if page::is_silent(hkroot, mack, i) {
+    if silent {
         return SubframeAnswer::Silent { week, time };
     }
     SubframeAnswer::Complete { week, time }
 }
 
 // The answer to an admitted page of that week and subframe, with the lent bytes then.
-pub(crate) fn answer_of(
+fn answer_of(
     taken: PageTaken,
     hkroot: &[u8],
     mack: &[u8],
@@ -238,7 +237,10 @@ pub(crate) fn answer_of(
     match taken {
         PageTaken::Unused => SubframeAnswer::Nothing,
         PageTaken::Used => SubframeAnswer::Nothing,
-        PageTaken::Last => pair(hkroot, mack, (satellite - 1) as usize, week, subframe),
+        PageTaken::Last => {
+            let silent = page::is_silent(hkroot, mack, (satellite - 1) as usize);
+            out_of(silent, week, subframe)
+        }
     }
 }
 

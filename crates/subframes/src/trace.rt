@@ -130,7 +130,9 @@ fn feed_entries(
         subframe = (entry.time / 30) as u16;
         n += 1;
         if is_last(taken) {
-            let answer = subframe::answer_of(taken, hkroot, mack, entry.satellite, week, subframe);
+            let i = (entry.satellite - 1) as usize;
+            let silent = page::is_silent(hkroot, mack, i);
+            let answer = subframe::out_of(silent, week, subframe);
             return fed(week, subframe, counts, answer, n);
         }
     }

@@ -14,14 +14,17 @@ enum-told-2 c = search needs
 enum-told-3 : tie.Need-enum-told-3
 enum-told-3 c = search needs
 
-sub-pair : tie.Need-sub-pair
-sub-pair c = search needs
+sub-is-silent : tie.Need-sub-is-silent
+sub-is-silent c = search needs
 
-cast-pair : tie.Need-cast-pair
-cast-pair c = search needs
+cast-is-silent : tie.Need-cast-is-silent
+cast-is-silent c = search needs
 
-pair-requires : tie.Need-pair-requires
-pair-requires c κs = search needs
+is-silent-requires : tie.Need-is-silent-requires
+is-silent-requires c κs = search needs
+
+out-of-requires : tie.Need-out-of-requires
+out-of-requires c κs = search needs
 
 returns : tie.Need-returns
 returns c = search needs
@@ -39,9 +42,10 @@ answer-of-spec =
     enum-told
     enum-told-2
     enum-told-3
-    sub-pair
-    cast-pair
-    pair-requires
+    sub-is-silent
+    cast-is-silent
+    is-silent-requires
+    out-of-requires
     returns
     returns-2
     returns-3)

@@ -109,24 +109,34 @@ add-n c = omega arith
 is-last-requires : tie.Need-is-last-requires Inv-loop μ-loop
 is-last-requires c κs = search needs
 
-answer-of-requires : tie.Need-answer-of-requires Inv-loop μ-loop
-answer-of-requires c κs =
-    let w = then (c .before .before .before) in
+sub-i : tie.Need-sub-i Inv-loop μ-loop
+sub-i c = let w = then (c .before .before) in turn-satellite (w .turn) (w .passed) .0
+
+cast-i : tie.Need-cast-i Inv-loop μ-loop
+cast-i c = search needs
+
+is-silent-requires : tie.Need-is-silent-requires Inv-loop μ-loop
+is-silent-requires c κs =
+    let w = then (c .before .before .before .before) in
     let s = turn-satellite (w .turn) (w .passed) in
-    (turn-sound w .h540, turn-sound w .m2160, s .0, s .1)
+    (turn-sound w .h540, turn-sound w .m2160, omega (arith, s .0, s .1))
+
+out-of-requires : tie.Need-out-of-requires Inv-loop μ-loop
+out-of-requires c κs = search needs
 
 fed-requires-2 : tie.Need-fed-requires-2 Inv-loop μ-loop
 fed-requires-2 c κs = search needs
 
 same-length-3 : tie.Need-same-length-3 Inv-loop μ-loop
-same-length-3 c = let w = then (c .before .before .before .before .before) in omega (arith, turn-sound w .h540, w .turn .left .first .h540)
+same-length-3 c = let w = then (c .before .before .before .before .before .before .before) in omega (arith, turn-sound w .h540, w .turn .left .first .h540)
 
 same-length-4 : tie.Need-same-length-4 Inv-loop μ-loop
-same-length-4 c = let w = then (c .before .before .before .before .before) in omega (arith, turn-sound w .m2160, w .turn .left .first .m2160)
+same-length-4 c = let w = then (c .before .before .before .before .before .before .before) in omega (arith, turn-sound w .m2160, w .turn .left .first .m2160)
 
 returns-2 : tie.Need-returns-2 Inv-loop μ-loop
-returns-2 c = let b = c .before .before .before .before in
-    turn-last (then (b .before)) (sym (b .before .is-last .ensures) ∙ b .if2 .taken) (c .before .answer-of .ensures) (c .fed2 .ensures _ _)
+returns-2 c = let b = c .before .before .before .before .before .before in
+    turn-last (then (b .before)) (sym (b .before .is-last .ensures) ∙ b .if2 .taken) (c .before .before .is-silent .ensures) (c .before .out-of .ensures)
+    (c .fed2 .ensures _ _)
 
 loop-less : tie.Need-loop-less Inv-loop μ-loop
 loop-less c = omega arith
@@ -171,7 +181,10 @@ feed-entries-spec =
     cast-subframe
     add-n
     is-last-requires
-    answer-of-requires
+    sub-i
+    cast-i
+    is-silent-requires
+    out-of-requires
     fed-requires-2
     same-length-3
     same-length-4
