@@ -441,4 +441,13 @@ unfolding
     replayed andThen pageStep isCounted skipped fed counted usedAnswer isUsed later osnma fedHkroot bit field refusal small changed used offered answerAt
     isSilent areZeros feedPage viewPage copied begun stored counted-blocks all finished taken feedBlock krootBlocks bytesFrom
 example =
-    record { silent-subframes = refl; silent-dsms = refl; silent-totals = refl; twin-subframes = refl; twin-dsms = refl; twin-totals = refl }
+    record {
+      silent-answer = refl;
+      twin-answer = refl;
+      silent-subframes = refl;
+      silent-dsms = refl;
+      silent-totals = refl;
+      twin-subframes = refl;
+      twin-dsms = refl;
+      twin-totals = refl;
+    }

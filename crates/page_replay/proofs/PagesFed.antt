@@ -9,7 +9,7 @@ use mathlib.Core.Bool.{Bool, true, false, cond}
 use lib.ListN.{length, getD, take, drop, replicate, length-append, length-take, length-drop}
 use lib.Dec.{eqb}
 use borrow.Author.Tests.{eq-eqb}
-use Rattle.layouts.specs.Answer.{refused, nothing, gives, refusal, copied, shownOr}
+use Rattle.layouts.specs.Answer.{Answer, refused, nothing, gives, refusal, copied, shownOr}
 use Rattle.layouts.specs.InavPage.{isCounted, osnma}
 use Rattle.layouts.proofs.Tags.{bytes-long}
 use Rattle.runs.specs.Runs.{afterAll}
@@ -23,7 +23,7 @@ use Rattle.page_replay.specs.Replay.{Time, later, Dsm, State, Run, start
 use Rattle.page_replay.specs.Replay.{fedPage, fed, pageStep, andThen, replayed}
 use Rattle.page_replay.specs.Pieces.{followedBy}
 use Rattle.page_replay.specs.ReplayPromises.{state}
-use Rattle.page_replay.specs.ReplayHistory.{fedAs, fedFrom, blocksIn, blocksFrom, subframesFrom, silentFrom, dsmsFrom, blockIn}
+use Rattle.page_replay.specs.ReplayHistory.{fedAs, fedFrom, blocksIn, blocksFrom, timesFrom, subframesFrom, silentFrom, dsmsFrom, blockIn}
 use Rattle.page_replay.proofs.PageFold.{later-weeks, later-week}
 use Rattle.page_replay.proofs.PagePieces.{split-anywhere}
 use Rattle.page_replay.proofs.PageSteps.{start-admitted}
@@ -42,21 +42,14 @@ blocks-append s (p ∷ ps) qs =
     ap (λ (l : List Block). first ++ l) (blocks-append (f .state) ps qs)
     ∙ sym (append-assoc first (blocksFrom (f .state) ps) (blocksFrom (afterPages (f .state) ps) qs))
 
-subframes-append : (s : Subframes) (ps qs : List Page) → subframesFrom s (ps ++ qs) ≡ subframesFrom s ps ++ subframesFrom (afterPages s ps) qs
-unfolding subframesFrom
-subframes-append s [] qs = refl
-subframes-append s (p ∷ ps) qs =
+times-append : (told : Answer → List Time) (s : Subframes) (ps qs : List Page)
+    → timesFrom told s (ps ++ qs) ≡ timesFrom told s ps ++ timesFrom told (afterPages s ps) qs
+unfolding timesFrom
+times-append told s [] qs = refl
+times-append told s (p ∷ ps) qs =
     let f = feedPage s p in
-    ap (λ (l : List Time). subframesIn (f .answer) ++ l) (subframes-append (f .state) ps qs)
-    ∙ sym (append-assoc (subframesIn (f .answer)) (subframesFrom (f .state) ps) (subframesFrom (afterPages (f .state) ps) qs))
-
-silent-append : (s : Subframes) (ps qs : List Page) → silentFrom s (ps ++ qs) ≡ silentFrom s ps ++ silentFrom (afterPages s ps) qs
-unfolding silentFrom
-silent-append s [] qs = refl
-silent-append s (p ∷ ps) qs =
-    let f = feedPage s p in
-    ap (λ (l : List Time). silentIn (f .answer) ++ l) (silent-append (f .state) ps qs)
-    ∙ sym (append-assoc (silentIn (f .answer)) (silentFrom (f .state) ps) (silentFrom (afterPages (f .state) ps) qs))
+    ap (λ (l : List Time). told (f .answer) ++ l) (times-append told (f .state) ps qs)
+    ∙ sym (append-assoc (told (f .answer)) (timesFrom told (f .state) ps) (timesFrom told (afterPages (f .state) ps) qs))
 
 dsms-append : (d : Dsms) (cs es : List Block) → dsmsFrom d (cs ++ es) ≡ dsmsFrom d cs ++ dsmsFrom (afterBlocks d cs) es
 unfolding dsmsFrom
@@ -85,7 +78,7 @@ passed-done [] s n d = refl
 passed-done (t ∷ l) s n d = sym (append-nil _)
 
 fed-feeds : (s : State) (page : List ℕ) → Feeds s (fedPage s page ∷ []) (fed s (fedPage s page))
-unfolding fed counted blocksFrom subframesFrom silentFrom
+unfolding fed counted blocksFrom timesFrom
 fed-feeds s page =
     let f = feedPage (s .subframes) (fedPage s page) in
     let done = subframesIn (f .answer) in
@@ -99,12 +92,12 @@ fed-feeds s page =
     }
 
 none-fed : (s : State) → Feeds s [] (start s)
-unfolding blocksFrom subframesFrom silentFrom dsmsFrom
+unfolding blocksFrom timesFrom dsmsFrom
 none-fed s =
     record { subframes-is = refl; dsms-is = refl; subframes-done = refl; silent-done = sym (add-zero (s .totals .silent)); dsms-done = refl }
 
 skipped-feeds : (s : State) → Feeds s [] (skipped s)
-unfolding skipped blocksFrom subframesFrom silentFrom dsmsFrom
+unfolding skipped blocksFrom timesFrom dsmsFrom
 skipped-feeds s =
     record { subframes-is = refl; dsms-is = refl; subframes-done = refl; silent-done = sym (add-zero (s .totals .silent)); dsms-done = refl }
 
@@ -151,9 +144,9 @@ module _ (s : State) (ps qs : List Page) (r x : Run) (f : Feeds s ps r) (g : Fee
         subframes-done =
             ap (λ (l : List Time). l ++ x .subframes) (f .subframes-done)
             ∙ ap (λ (l : List Time). subframesFrom (s .subframes) ps ++ l) (g .subframes-done ∙ ap (λ (t : Subframes). subframesFrom t qs) (f .subframes-is))
-            ∙ sym (subframes-append (s .subframes) ps qs);
+            ∙ sym (times-append subframesIn (s .subframes) ps qs);
         silent-done =
-            let more = ap length (silent-append (s .subframes) ps qs) ∙ length-append (silentFrom (s .subframes) ps) _ in
+            let more = ap length (times-append silentIn (s .subframes) ps qs) ∙ length-append (silentFrom (s .subframes) ps) _ in
             let then = ap (λ (t : Subframes). length (silentFrom t qs)) (f .subframes-is) in
             omega (arith, f .silent-done, g .silent-done, more, then);
         dsms-done =

@@ -9,7 +9,7 @@ use Rattle.layouts.specs.Answer.{Answer, refused, nothing, gives, refusal}
 use Rattle.layouts.specs.Gst.{svnGstChecks}
 use Rattle.runs.specs.Runs.{afterAll}
 use Rattle.layouts.specs.InavPage.{isCounted}
-use Rattle.subframes.specs.Subframe.{State as Subframes, Page, feedChecks, isUsed, usedAnswer, silent, feed as feedPage}
+use Rattle.subframes.specs.Subframe.{State as Subframes, Page, feedChecks, isUsed, usedAnswer, complete, silent, feed as feedPage}
 use Rattle.page_replay.specs.Replay.{State, Totals, new, Run, start, isTaken, fedPage, pageStep, replayed, pagesOf, wholePages, most, areFew}
 use Rattle.page_replay.specs.Replay.{replayChecks, Outcome, replay}
 
@@ -156,11 +156,17 @@ goodPage = replicate 15 0 ++ (128 ∷ replicate 14 0)
 abbrev pub lastPage : List ℕ
 lastPage = replicate 15 0 ++ (128 ∷ replicate 6 0 ++ (64 ∷ replicate 7 0))
 
--- fourteen of them, and one more
+-- fourteen of the first, and one more
+abbrev pub fourteen : State
+fourteen = replayed (new 3 1200 60 (replicate 540 0) (replicate 2160 0) (replicate 208 0)) (replicate 14 goodPage) .state
+
 abbrev pub fifteen : List ℕ → Run
 fifteen last = replayed (new 3 1200 60 (replicate 540 0) (replicate 2160 0) (replicate 208 0)) (replicate 14 goodPage ++ (last ∷ []))
 
 pub record Example : Type 0 where
+  -- the answers of the subframe collector: what `SilentStaysOut` asks for, and what it does not
+  pub silent-answer : feedPage (fourteen .subframes) (fedPage fourteen goodPage) .answer ≡ silent 1200 2
+  pub twin-answer : feedPage (fourteen .subframes) (fedPage fourteen lastPage) .answer ≡ complete 1200 2
   pub silent-subframes : fifteen goodPage .subframes ≡ []
   pub silent-dsms : fifteen goodPage .dsms ≡ []
   pub silent-totals :

@@ -8,7 +8,7 @@ use mathlib.Core.Bool.{true, false, cond}
 use mathlib.Core.Path.{_≡_}
 use lib.ListN.{length, getD, take, drop, replicate}
 use lib.Dec.{ltb}
-use Rattle.layouts.specs.Answer.{refused, gives, refusal}
+use Rattle.layouts.specs.Answer.{Answer, refused, gives, refusal}
 use Rattle.layouts.specs.Gst.{svnGstChecks}
 use Rattle.layouts.specs.InavPage.{isCounted, osnma}
 use Rattle.subframes.specs.Subframe.{Page, State as Subframes, new as newSubframes, feed as feedPage}
@@ -86,13 +86,15 @@ blocksFrom s [] = []
 blocksFrom s (p ∷ ps) = blocksIn (subframesIn (feedPage s p .answer)) (feedPage s p .state) (p .satellite) ++ blocksFrom (feedPage s p .state) ps
 
 -- what a collector answers to them, one by one
-unfoldable pub subframesFrom : Subframes → List Page → List Time
-subframesFrom s [] = []
-subframesFrom s (p ∷ ps) = subframesIn (feedPage s p .answer) ++ subframesFrom (feedPage s p .state) ps
+unfoldable pub timesFrom : (Answer → List Time) → Subframes → List Page → List Time
+timesFrom told s [] = []
+timesFrom told s (p ∷ ps) = told (feedPage s p .answer) ++ timesFrom told (feedPage s p .state) ps
 
-unfoldable pub silentFrom : Subframes → List Page → List Time
-silentFrom s [] = []
-silentFrom s (p ∷ ps) = silentIn (feedPage s p .answer) ++ silentFrom (feedPage s p .state) ps
+abbrev pub subframesFrom : Subframes → List Page → List Time
+subframesFrom s ps = timesFrom subframesIn s ps
+
+abbrev pub silentFrom : Subframes → List Page → List Time
+silentFrom s ps = timesFrom silentIn s ps
 
 unfoldable pub dsmsFrom : Dsms → List Block → List Dsm
 dsmsFrom d [] = []

@@ -365,8 +365,10 @@ module _ (week subframe : ℕ) (counts h m : List ℕ) (e : Entry) (bytes : List
         is-used = o .is-used ∙ ap (λ (s : State). eqb (wordOf (e .time)) (getD (s .counts) (e .satellite - 1) 0)) (er h m);
       }
 
-pub fed-whole : {s : State} {p : Page} {r : PageTaken} {cs h m : List ℕ} {a : Answer} → PageFed s p r cs h m
-    → a ≡ answerOf r (p .week) (subframeOf (p .time)) (isSilent h m (p .satellite - 1)) → _≡_ {A = Fed} (record { state = stateOf (p .week) (subframeOf (p .time)) cs h m; answer = a }) (feed s p)
+pub fed-whole :
+    {s : State} {p : Page} {r : PageTaken} {cs h m : List ℕ} {a : Answer} → PageFed s p r cs h m
+    → a ≡ answerOf r (p .week) (subframeOf (p .time)) (isSilent h m (p .satellite - 1))
+    → _≡_ {A = Fed} (record { state = stateOf (p .week) (subframeOf (p .time)) cs h m; answer = a }) (feed s p)
 fed-whole {s} {p} {r} {cs} {h} {m} f e = ap (λ (a : Answer). record { state = stateOf (p .week) (subframeOf (p .time)) cs h m; answer = a }) e ∙ f .fed
 
 -- Whether a page is used, asked of the record.
