@@ -27,6 +27,7 @@ silent-pairs =
       then-nothing = refl;
       old-bytes = refl;
       neighbour = refl;
+      neighbour-there = (refl, refl);
       unused-page = refl;
       first-copy = refl;
       fourteen = refl;

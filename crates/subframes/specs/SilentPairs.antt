@@ -5,7 +5,7 @@ use Prim.Native.Nat.{ℕ, _+_, _*_}
 use mathlib.Core.List.{List, [], _∷_}
 use mathlib.Core.Bool.{Bool, cond}
 use mathlib.Core.Path.{_≡_}
-use lib.ListN.{replicate}
+use lib.ListN.{getD, replicate}
 use lib.Dec.{eqb}
 use Rattle.layouts.specs.Answer.{Answer, refused, nothing, gives}
 use Rattle.subframes.specs.Subframe.{new, Page, complete, silent, answerAt, feed, view}
@@ -49,6 +49,7 @@ pub record SilentPairs : Type 0 where
   -- neither old bytes in lent memory nor another satellite's matter
   pub old-bytes : feed (after (new (replicate 540 1) (replicate 2160 1)) (wordsFrom 0 14)) (wordPage 14) .answer ≡ silent 1200 2
   pub neighbour : answerTo (neighbourPage ∷ wordsFrom 0 14) (wordPage 14) ≡ silent 1200 2
+  pub neighbour-there : let s = after newOne (neighbourPage ∷ wordsFrom 0 15) in (getD (s .counts) 7 0 ≡ 1) × (getD (s .hkroot) 105 0 ≡ 1)
   -- It is not "all pages of the satellite are zeros": word 1 comes with a byte of 1, unused, and then again.
   pub unused-page : answerTo (onePage 1 ∷ wordsFrom 0 14) (wordPage 14) ≡ silent 1200 2
   -- It is not "the last copy of each word is zeros": word 0 comes with a byte of 1, and then again.

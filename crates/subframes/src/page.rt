@@ -68,7 +68,8 @@ fn are_zeros(bytes: &[u8], first: usize, many: usize) -> bool
     any == 0
 }
 
-// Whether the pair of the satellite at `i` is zeros alone.
+// Whether the pair of the satellite at `i` is zeros alone. Asked where a pair comes out and not in the page's step, which the compiler puts into the loop of
+// `feed_all` as long as it is small.
 pub(crate) fn is_silent(hkroot: &[u8], mack: &[u8], i: usize) -> bool
     requires { ⌜ (length (now hkroot) ≡ 540) × (length (now mack) ≡ 2160) × (i < 36) ⌝ }
     ensures { λ r. ⌜ r ≡ isSilent (now (hkroot .entry)) (now (mack .entry)) i ⌝ }
