@@ -136,7 +136,7 @@ module _ (n : ℕ) (s : State) (p : Page) (ps : List Page) where
       so-told true = record { room = omega arith; answers-are = ap (λ (a : Answer). a ∷ []) (sym e); state-is = sym (still s p q e) }
       so-told false = record { room = omega arith; answers-are = refl; state-is = refl }
 
-  -- it completes a subframe
+  -- with it a pair comes out
   walked-complete : (l : List ℕ) → feed s p .answer ≡ gives l
       → Walked (Unit {0}) n s (p ∷ ps) (record { state = feed s p .state; answer = gives l; consumed = n + 1 })
   walked-complete l e =
