@@ -14,7 +14,7 @@ use Rattle.layouts.specs.Answer.{Answer, refused, nothing, gives, Check, refusa
 use Rattle.layouts.specs.Gst.{svnChecks, svnGstChecks}
 use Rattle.layouts.proofs.Answers.{none-fails, stopped, went-on, copied-refused, copied-bytes}
 use Rattle.subframes.specs.Subframe.{State, Page, Fed, WordStep, wordOf, subframeOf, small, rangeChecks, recordChecks, viewChecks}
-use Rattle.subframes.specs.Subframe.{askChecks, feedChecks, takeWord, fresh, changed, put4, usedAnswer, view}
+use Rattle.subframes.specs.Subframe.{askChecks, feedChecks, takeWord, fresh, changed, put4, usedAnswer, view, cameOut}
 use Rattle.subframes.specs.Subframe.{zeros, isSilent, complete, silent, outOf, answerAt, used, offered, isUsed, feed}
 use Rattle.subframes.specs.inner.Page.{pageOf, stateOf, answerOf, usedOf, Offered, PageFed}
 use Rattle.subframes.specs.SubframePromises.{state, TakeWord, meaning-word, sizeOf, bufferOf, meaning-shown, ViewSubframeShown, ViewSubframe}
@@ -425,6 +425,65 @@ module _ (s : State) (size n : ℕ) {q : ℕ} (e : q ≡ refusal (viewChecks s n
     pub view-15 : {m : ℕ} → getD (s .counts) (n - 1) 0 ≡ 15 → m ≡ size → gives (m * (n - 1) ∷ m ∷ []) ≡ view s size n
     unfolding view
     view-15 h g = rw (← e, z, eq-eqb (getD (s .counts) (n - 1) 0) 15 h, g)
+
+-- What has come out.
+module _ (s : State) (n : ℕ) {q : ℕ} (e : q ≡ refusal (viewChecks s n)) where
+  pub came-refused : (q ≡ 0 → ⊥) → refused q ≡ cameOut s n
+  unfolding cameOut
+  came-refused ne = rw (← e, ne-eqb q 0 ne)
+
+  module _ (z : q ≡ 0) where
+    came-at : answerAt (getD (s .counts) (n - 1) 0) (s .week) (s .subframe) (isSilent (s .hkroot) (s .mack) (n - 1)) ≡ cameOut s n
+    unfolding cameOut
+    came-at = rw (← e, z)
+
+    pub came-less : (getD (s .counts) (n - 1) 0 ≡ 15 → ⊥) → nothing ≡ cameOut s n
+    came-less ne = answer-less (getD (s .counts) (n - 1) 0) (s .week) (s .subframe) (isSilent (s .hkroot) (s .mack) (n - 1)) ne ∙ came-at
+
+    pub came-15 :
+        {a : Answer} {b : Bool} → getD (s .counts) (n - 1) 0 ≡ 15 → b ≡ isSilent (s .hkroot) (s .mack) (n - 1) → a ≡ outOf b (s .week) (s .subframe)
+        → a ≡ cameOut s n
+    came-15 h eb ea =
+        ea ∙ ap (λ (x : Bool). outOf x (s .week) (s .subframe)) eb
+        ∙ answer-15 (getD (s .counts) (n - 1) 0) (s .week) (s .subframe) (isSilent (s .hkroot) (s .mack) (n - 1)) h ∙ came-at
+
+-- what the view shows of the satellite says which of the three it is
+module _ (s : State) (size n : ℕ) where
+  abbrev out : Answer
+  out = outOf (isSilent (s .hkroot) (s .mack) (n - 1)) (s .week) (s .subframe)
+
+  abbrev either : Bool → Bool → Answer → Answer
+  either passes all then = cond passes (cond all then nothing) (refused (refusal (viewChecks s n)))
+
+  abbrev place : Answer
+  place = gives (size * (n - 1) ∷ size ∷ [])
+
+  pub came-shown : view s size n ≡ place → cameOut s n ≡ out
+  unfolding view cameOut answerAt
+  came-shown e = go (eqb (refusal (viewChecks s n)) 0) (eqb (getD (s .counts) (n - 1) 0) 15) e
+    where
+      go : (a b : Bool) → either a b place ≡ place → either a b out ≡ out
+      go true true f = refl
+      go true false f = let z : _≡_ {A = ℕ} 0 1 = cc in absurd (omega arith)
+      go false b f = let z : _≡_ {A = ℕ} 0 1 = cc in absurd (omega arith)
+
+  pub came-nothing : view s size n ≡ nothing → cameOut s n ≡ nothing
+  unfolding view cameOut answerAt
+  came-nothing e = go (eqb (refusal (viewChecks s n)) 0) (eqb (getD (s .counts) (n - 1) 0) 15) e
+    where
+      go : (a b : Bool) → either a b place ≡ nothing → either a b out ≡ nothing
+      go true true f = let z : _≡_ {A = ℕ} 0 1 = cc in absurd (omega arith)
+      go true false f = refl
+      go false b f = f
+
+  pub came-not : {q : ℕ} → view s size n ≡ refused q → cameOut s n ≡ refused q
+  unfolding view cameOut answerAt
+  came-not {q} e = go (eqb (refusal (viewChecks s n)) 0) (eqb (getD (s .counts) (n - 1) 0) 15) e
+    where
+      go : (a b : Bool) → either a b place ≡ refused q → either a b out ≡ refused q
+      go true true f = let z : _≡_ {A = ℕ} 0 1 = cc in absurd (omega arith)
+      go true false f = let z : _≡_ {A = ℕ} 0 1 = cc in absurd (omega arith)
+      go false b f = f
 
 -- a message lies within its buffer
 pub message-room :

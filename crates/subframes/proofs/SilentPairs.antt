@@ -4,7 +4,7 @@ use mathlib.Core.Path.{_≡_, refl}
 use mathlib.Core.Bool.{Bool, true, false, cond}
 use lib.Dec.{eqb}
 use Rattle.layouts.specs.Answer.{nothing, refusal}
-use Rattle.subframes.specs.Subframe.{small, changed, zeros, isSilent, outOf, complete, answerAt, used, offered, feed, view}
+use Rattle.subframes.specs.Subframe.{small, changed, zeros, isSilent, outOf, complete, answerAt, used, offered, feed, view, cameOut}
 use Rattle.subframes.specs.SilentPairs.{asComplete, InPlaceOfComplete, SilentPairs}
 
 pub in-place-of-complete : InPlaceOfComplete
@@ -17,7 +17,7 @@ in-place-of-complete count week subframe areZeros = go (eqb count 15) areZeros
     go false b = refl
 
 pub silent-pairs : SilentPairs
-unfolding feed offered used changed answerAt isSilent zeros refusal small view
+unfolding feed offered used changed answerAt isSilent zeros refusal small view cameOut
 silent-pairs =
     record {
       all-zeros = refl;
@@ -31,4 +31,9 @@ silent-pairs =
       unused-page = refl;
       first-copy = refl;
       fourteen = refl;
+      told-silent = refl;
+      told-complete = refl;
+      told-fourteen = refl;
+      told-neighbour = refl;
+      told-refused = refl;
     }

@@ -1,6 +1,6 @@
 -- Whatever history of calls: the record and the memory that the code left are those of its pages, so that what holds of the definition holds of the code.
 -- Assumes nothing.
-use Prim.Native.Nat.{ℕ, suc, _+_, _-_, _*_, _%_, _≤_}
+use Prim.Native.Nat.{ℕ, suc, _+_, _-_, _*_, _%_, _≤_, _<_}
 use native.Mathlib.Omega.{arith}
 use native.Mathlib.Decide.{ℕ-discrete}
 use mathlib.Core.Logic.{⊎-elim}
@@ -14,11 +14,11 @@ use Rattle.layouts.specs.Answer.{Copied, copied}
 use Rattle.layouts.specs.Gst.{svnChecks}
 use Rattle.subframes.specs.Subframe.{State, new, Page, wordOf, subframeOf, Fed, small, recordChecks, viewChecks, feedChecks, changed, answerAt, used}
 use Rattle.subframes.specs.Subframe.{zeros, isSilent, outOf}
-use Rattle.subframes.specs.Subframe.{offered, feed, view}
+use Rattle.subframes.specs.Subframe.{offered, feed, view, cameOut}
 use Rattle.subframes.specs.Trace.{entries, FedMany, traceChecks, feedAll}
 use Rattle.subframes.specs.SubframePromises.{state, meaning-subframe, meaning-shown, outcome, sizeOf, bufferOf, FeedSubframe}
 use Rattle.subframes.specs.TracePromises.{outcome-all, FeedAll}
-use Rattle.subframes.specs.SubframeRecovery.{isAdmitted, before, run, after, noPage, hasWord, Words, ComesOut, Alike, Viewed, Recovers}
+use Rattle.subframes.specs.SubframeRecovery.{isAdmitted, before, run, after, noPage, hasWord, Words, Built, ComesOut, areZeros, Alike, Viewed, Recovers}
 use Rattle.subframes.specs.SubframeHistory.{Call, one, many, Misfit, History, begun, called, misfit, looked, ShowsPair, ShowsNone, FeedRecovers}
 use Rattle.subframes.specs.SubframeHistory.{FeedAllRecovers, MisfitRefused, CodeRecovers, AnyPages}
 use Rattle.subframes.specs.SubframeHistory.{wordPage, wordsFrom, lastPage, shortPage, WordsExample, RefusedCalls, SmallestCase}
@@ -31,9 +31,10 @@ use Rattle.subframes.specs.declared.subframe.SubframeShown.{SubframeShow
 use Rattle.subframes.specs.declared.subframe.SubframeShown.the-variants.{Shown, Nothing as NothingShown, Refused as NotShown}
 use Rattle.subframes.specs.declared.trace.TraceFed.{TraceFed}
 use Rattle.subframes.proofs.Pages.{feed-refused, other-hkroot, other-mack, other-page, not-taken, not-seen, view-refused}
+use Rattle.subframes.proofs.Pages.{came-shown, came-nothing, came-not}
 use Rattle.subframes.proofs.Entries.{not-whole, whole, all-refused}
 use Rattle.subframes.proofs.SubframeSound.{Sound, sound-fed, sound-admitted, sound-passes}
-use Rattle.subframes.proofs.SubframeRecovery.{subframes-recover, subframes-show}
+use Rattle.subframes.proofs.SubframeRecovery.{subframes-recover, subframes-show, OfPage, of-run}
 use Rattle.subframes.proofs.TraceSteps.{after-more, after-next, Walked, walked-all}
 use Rattle.subframes.proofs.SubframeUnique.{back-subframe, undo-subframe, back-state, view-subframe-shown, hkroot-message}
 
@@ -158,6 +159,11 @@ module _ {s : State} {ps : List Page} (w : Reached s ps) where
 
 -- What the calls that only read hand out.
 module _ (c : CollectSubframe) (h m : List ℕ) (n : ℕ) where
+  -- the pair in memory is zeros where the pages that it is built from are
+  built-zeros : (r : List Page) (b : Built (state c h m) n r) → isSilent h m (n - 1) ≡ areZeros r (b .choice .at)
+  unfolding isSilent
+  built-zeros r b = rw (b .hkroot-is, b .mack-is)
+
   shows-words : (r : List Page) → Viewed (state c h m) r n → Words n r → ShowsPair c h m r n
   unfolding shown copied
   shows-words r v w =
@@ -169,20 +175,22 @@ module _ (c : CollectSubframe) (h m : List ℕ) (n : ℕ) where
         hkroot-part = λ l e. e ∙ ap (shown h) (b .1 15) ∙ b .0 .hkroot-is;
         mack-part = λ l e. e ∙ ap (shown m) (b .1 60) ∙ b .0 .mack-is;
         whole = λ a e. ap (λ (f : Copied). f .bytes) (e ∙ ap (copied 15 h) (b .1 15)) ∙ b .0 .hkroot-is;
+        out = λ a e. e ∙ came-shown (state c h m) 15 n (b .1 15) ∙ ap (λ (x : Bool). outOf x (c .week) (c .subframe)) (built-zeros r (b .0));
       }
 
-  -- no bytes beside such an answer
+  -- no bytes beside such an answer, and it is also what has come out
   record Bare (x : SubframeShown) : Type 0 where
     part-is : (l : List ℕ) → shown l (meaning-shown x) ≡ []
     whole-is : copied 15 h (meaning-shown x) ≡ record { answer = meaning-shown x; bytes = replicate 15 0 }
+    out-is : view (state c h m) 15 n ≡ meaning-shown x → cameOut (state c h m) n ≡ meaning-shown x
 
   bare-nothing : Bare NothingShown
   unfolding shown copied
-  bare-nothing = record { part-is = λ l. refl; whole-is = refl }
+  bare-nothing = record { part-is = λ l. refl; whole-is = refl; out-is = came-nothing (state c h m) 15 n }
 
   bare-refused : (q : ℕ) → Bare (NotShown q)
   unfolding shown copied
-  bare-refused q = record { part-is = λ l. refl; whole-is = refl }
+  bare-refused q = record { part-is = λ l. refl; whole-is = refl; out-is = came-not (state c h m) 15 n }
 
   shows-bare : (x : SubframeShown) → Bare x → ((size : ℕ) → view (state c h m) size n ≡ meaning-shown x) → ShowsNone c h m n x
   shows-bare x b v =
@@ -190,6 +198,7 @@ module _ (c : CollectSubframe) (h m : List ℕ) (n : ℕ) where
         question = λ k a e. view-subframe-shown c h m k n a x e (sym (v (sizeOf k)));
         part = λ k l e. e ∙ ap (shown (bufferOf k h m)) (v (sizeOf k)) ∙ b .part-is (bufferOf k h m);
         whole = λ a e. hkroot-message c h m n a (record { answer = x; bytes = replicate 15 0 }) e (sym (ap (copied 15 h) (v 15) ∙ b .whole-is));
+        out = λ a e. e ∙ b .out-is (v 15);
       }
 
   shows-number : (q : ℕ) → (q ≡ 0 → ⊥) → q ≡ refusal (viewChecks (state c h m) n) → ShowsNone c h m n (NotShown q)
@@ -224,6 +233,13 @@ module _ {c : CollectSubframe} {h m : List ℕ} {ps : List Page} (k : History c 
   shows-refused : (refusal (svnChecks n) ≡ 0 → ⊥) → ShowsNone c h m n (NotShown 2)
   shows-refused ne =
       shows-number c h m n 2 (λ z. absurd (omega (arith, z))) (svn-number n ne ∙ sym (sound-passes (state c h m) (reached-sound (reached k)) (svnChecks n)))
+
+-- the record is of its run
+pub record-of-run : {c : CollectSubframe} {h m : List ℕ} {ps : List Page} → History c h m ps
+    → (j : ℕ) → j < length (run ps) → OfPage (state c h m) (getD (run ps) j noPage)
+record-of-run {ps = ps} k j l =
+    let w = reached k in
+    subst⁻¹ (λ (s : State). OfPage s (getD (run ps) j noPage)) (w .is) (of-run (w .hkroot) (w .mack) (w .h540) (w .m2160) ps j l)
 
 feed-recovers : {c : CollectSubframe} {h m : List ℕ} {ps : List Page} → History c h m ps
     → (p : Page) (r : SubframeFed) (h′ m′ : List ℕ) → FeedSubframe c h m p r h′ m′ → FeedRecovers c h m ps p r h′ m′
@@ -331,6 +347,7 @@ code-recovers =
       shows-none = shows-none;
       shows-refused = shows-refused;
       shows-misfit = shows-misfit;
+      record-of-run = record-of-run;
       feed-recovers = feed-recovers;
       feed-all-recovers = feed-all-recovers;
       misfit-refused = misfit-call;

@@ -7,8 +7,8 @@ use mathlib.Core.Path.{_≡_, refl, sym, ap, _∙_, subst, subst⁻¹}
 use mathlib.Core.Logic.{_↔_, _⊎_, ⊎-elim, inl, inr}
 use mathlib.Core.List.{List, [], _∷_, _++_}
 use mathlib.Core.Bool.{Bool, true, false, cond, not, _&&_}
-use lib.ListN.{length, getD, take, drop, replicate, length-drop, getD-replicate}
-use lib.Seq.{length-take-le, getD-take, getD-drop, drop-drop, take-add}
+use lib.ListN.{length, getD, take, drop, replicate, length-drop, length-append, getD-replicate, List·getD-append}
+use lib.Seq.{length-take-le, getD-take, getD-drop, getD-at, drop-drop, take-add}
 use lib.Dec.{leb, eqb}
 use borrow.Author.Tests.{le-leb, le-ltb, ne-eqb, eqb-true, eqb-false, ltb-false, leb-true, leb-false, not-false}
 use Rattle.layouts.specs.Answer.{Answer, refused, nothing, gives, shown, refusal}
@@ -576,3 +576,55 @@ subframes-show h m lh lm ps n some few =
     let first : Seen (new h m) [] = record
     { holds = new-holds h m lh lm; sees = core-viewed 0 0 (new h m) [] k (core-sound 0 0 (new h m) [] k (omega arith) (omega arith)) } in
     kept-by-all isAdmitted sameSubframe (λ (t : State) (p : Page). feed t p .state) Seen seen-call (new h m) [] ps first .sees n some few
+
+-- The record's week and subframe are those of every page of its run.
+abbrev pub OfPage : State → Page → Type 0
+OfPage s p = (s .week ≡ p .week) × (s .subframe ≡ subframeOf (p .time))
+
+record Dated (s : State) (r : List Page) : Type 0 where
+  holds : Holds s r
+  dated : (j : ℕ) → j < length r → OfPage s (getD r j noPage)
+
+-- a page that goes on with a run is of the same subframe as one of its pages
+same-as-one : (r : List Page) (p : Page) → goesOn isAdmitted sameSubframe r p ≡ true → (i : ℕ) × (i < length r) × (sameSubframe (getD r i noPage) p ≡ true)
+same-as-one [] p e = let z : _≡_ {A = ℕ} 0 1 = cc in absurd (omega arith)
+same-as-one (d ∷ []) p e = (0, omega arith, e)
+same-as-one (d ∷ q ∷ r) p e = let w = same-as-one (q ∷ r) p e in (suc (w .0), omega (arith, w .1), w .2)
+
+dated-call : (s : State) (r : List Page) → Dated s r → (p : Page) → Dated (feed s p .state) (grown r p)
+dated-call s r w p = record { holds = call-holds s r (w .holds) p; dated = go (isAdmitted p) refl }
+  where
+    earlier : (b : Bool) → goesOn isAdmitted sameSubframe r p ≡ b → (t : State) → OfPage t p → (j : ℕ) → j < length (cond b r [])
+        → OfPage t (getD (cond b r []) j noPage)
+    earlier false e t o j l = absurd (omega (arith, l))
+    earlier true e t o j l =
+        let i = same-as-one r p e in
+        let q = getD r (i .0) noPage in
+        let same = and-true (eqb (q .week) (p .week)) (eqb (subframeOf (q .time)) (subframeOf (p .time))) (i .2) in
+        let there = w .dated (i .0) (i .1) in
+        let here = w .dated j l in (
+          o .0 ∙ sym (eqb-true (q .week) (p .week) (same .0)) ∙ sym (there .0) ∙ here .0,
+          o .1 ∙ sym (eqb-true (subframeOf (q .time)) (subframeOf (p .time)) (same .1)) ∙ sym (there .1) ∙ here .1,
+        )
+
+    go : (b : Bool) → isAdmitted p ≡ b → (j : ℕ) → j < length (cond b (before r p ++ (p ∷ [])) r)
+        → OfPage (feed s p .state) (getD (cond b (before r p ++ (p ∷ [])) r) j noPage)
+    go false e j l = subst⁻¹ (λ (f : Fed). OfPage (f .state) (getD r j noPage)) (refused-is s r (w .holds) p e) (w .dated j l)
+    go true e j l = at (ℕ-discrete (length (before r p)) j)
+      where
+        own : OfPage (feed s p .state) p
+        own = let k = fed-core s r (w .holds) p e in (k .week-is, k .subframe-is)
+
+        at : Dec (length (before r p) ≡ j) → OfPage (feed s p .state) (getD (before r p ++ (p ∷ [])) j noPage)
+        at (yes h) = subst⁻¹ (OfPage (feed s p .state)) (getD-at (before r p) p [] noPage j h) own
+        at (no h) =
+            let few : j < length (before r p) = omega (arith, l, h, length-append (before r p) (p ∷ [])) in
+            subst⁻¹ (OfPage (feed s p .state)) (List·getD-append (before r p) (p ∷ []) noPage j few)
+            (earlier (goesOn isAdmitted sameSubframe r p) refl (feed s p .state) own j few)
+
+pub of-run :
+    (h m : List ℕ) → length h ≡ 540 → length m ≡ 2160 → (ps : List Page) (j : ℕ) → j < length (run ps)
+    → OfPage (after (new h m) ps) (getD (run ps) j noPage)
+of-run h m lh lm ps =
+    let first : Dated (new h m) [] = record { holds = new-holds h m lh lm; dated = λ j l. absurd (omega (arith, l)) } in
+    kept-by-all isAdmitted sameSubframe (λ (t : State) (p : Page). feed t p .state) Dated dated-call (new h m) [] ps first .dated

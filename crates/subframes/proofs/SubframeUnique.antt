@@ -7,7 +7,8 @@ use Rattle.layouts.specs.Answer.{Answer, refused, nothing, gives, Copied}
 use Rattle.layouts.specs.Agree.{Agree, AgreeWithTwo}
 use Rattle.subframes.specs.Subframe.{State, Page, WordStep, Fed}
 use Rattle.subframes.specs.SubframePromises.{outcome, meaning-subframe, meaning-word, meaning-shown}
-use Rattle.subframes.specs.SubframePromises.{NewSubframe, TakeWord, IsUsed, FeedSubframe, ViewSubframeShown, ViewSubframe, HkrootMessageRead}
+use Rattle.subframes.specs.SubframePromises.{NewSubframe, TakeWord, IsUsed, FeedSubframe}
+use Rattle.subframes.specs.SubframePromises.{ViewSubframeShown, CameOut, ViewSubframe, HkrootMessageRead}
 use Rattle.subframes.specs.declared.subframe.CollectSubframe.{CollectSubframe}
 use Rattle.subframes.specs.declared.subframe.SubframeAnswer.{SubframeAnswer}
 use Rattle.subframes.specs.declared.subframe.SubframeAnswer.the-variants.{Refused, Nothing, Complete, Silent}
@@ -89,6 +90,9 @@ undo-shown (NotShown n) = refl
 
 pub view-subframe-shown : (c : CollectSubframe) (h m : List ℕ) (k : Message) (n : ℕ) → Agree (ViewSubframeShown c h m k n)
 view-subframe-shown c h m k n r s p q = sym (undo-shown r) ∙ ap back-shown (p ∙ sym q) ∙ undo-shown s
+
+pub came-out : (c : CollectSubframe) (h m : List ℕ) (n : ℕ) → Agree (CameOut c h m n)
+came-out c h m n r s p q = sym (undo-subframe r) ∙ ap back-subframe (p ∙ sym q) ∙ undo-subframe s
 
 pub view-subframe : (c : CollectSubframe) (h m : List ℕ) (k : Message) (n : ℕ) → Agree (ViewSubframe c h m k n)
 view-subframe c h m k n r s p q = p ∙ sym q

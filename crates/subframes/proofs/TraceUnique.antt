@@ -11,7 +11,7 @@ use Rattle.subframes.specs.declared.subframe.CollectSubframe.{CollectSub
 use Rattle.subframes.specs.declared.trace.TraceFed.{TraceFed}
 use Rattle.subframes.specs.Agreed.{Agreed}
 use Rattle.subframes.proofs.SubframeUnique.{back-subframe, undo-subframe, back-state, new-subframe, take-word, is-used, feed-subframe}
-use Rattle.subframes.proofs.SubframeUnique.{view-subframe-shown, view-subframe, hkroot-message}
+use Rattle.subframes.proofs.SubframeUnique.{view-subframe-shown, came-out, view-subframe, hkroot-message}
 
 abbrev back-all : FedMany → TraceFed
 back-all f = record { collector = back-state (f .state); answer = back-subframe (f .answer); consumed = f .consumed }
@@ -35,6 +35,7 @@ agreed =
       feed = feed-subframe;
       is-used = is-used;
       view-shown = view-subframe-shown;
+      came-out = came-out;
       view = view-subframe;
       hkroot-message = hkroot-message;
       feed-all = feed-all;

@@ -5,7 +5,8 @@ use Prim.Native.Nat.{ℕ}
 use mathlib.Core.List.{List}
 use Rattle.layouts.specs.Agree.{Agree, AgreeWithTwo}
 use Rattle.subframes.specs.Subframe.{Page}
-use Rattle.subframes.specs.SubframePromises.{NewSubframe, TakeWord, FeedSubframe, IsUsed, ViewSubframeShown, ViewSubframe, HkrootMessageRead}
+use Rattle.subframes.specs.SubframePromises.{NewSubframe, TakeWord, FeedSubframe, IsUsed}
+use Rattle.subframes.specs.SubframePromises.{ViewSubframeShown, CameOut, ViewSubframe, HkrootMessageRead}
 use Rattle.subframes.specs.TracePromises.{FeedAll}
 use Rattle.subframes.specs.declared.subframe.CollectSubframe.{CollectSubframe}
 use Rattle.subframes.specs.declared.subframe.Message.{Message}
@@ -16,6 +17,7 @@ pub record Agreed : Type 0 where
   pub feed : (c : CollectSubframe) (hkroot mack : List ℕ) (p : Page) → AgreeWithTwo (FeedSubframe c hkroot mack p)
   pub is-used : (c : CollectSubframe) (satellite week time : ℕ) → Agree (IsUsed c satellite week time)
   pub view-shown : (c : CollectSubframe) (hkroot mack : List ℕ) (m : Message) (satellite : ℕ) → Agree (ViewSubframeShown c hkroot mack m satellite)
+  pub came-out : (c : CollectSubframe) (hkroot mack : List ℕ) (satellite : ℕ) → Agree (CameOut c hkroot mack satellite)
   pub view : (c : CollectSubframe) (hkroot mack : List ℕ) (m : Message) (satellite : ℕ) → Agree (ViewSubframe c hkroot mack m satellite)
   pub hkroot-message : (c : CollectSubframe) (hkroot mack : List ℕ) (satellite : ℕ) → Agree (HkrootMessageRead c hkroot mack satellite)
   pub feed-all : (c : CollectSubframe) (hkroot mack trace : List ℕ) → AgreeWithTwo (FeedAll c hkroot mack trace)

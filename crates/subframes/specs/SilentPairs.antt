@@ -8,7 +8,7 @@ use mathlib.Core.Path.{_≡_}
 use lib.ListN.{getD, replicate}
 use lib.Dec.{eqb}
 use Rattle.layouts.specs.Answer.{Answer, refused, nothing, gives}
-use Rattle.subframes.specs.Subframe.{new, Page, complete, silent, answerAt, feed, view}
+use Rattle.subframes.specs.Subframe.{new, Page, complete, silent, answerAt, feed, view, cameOut}
 use Rattle.subframes.specs.SubframePromises.{call}
 use Rattle.subframes.specs.SubframeRecovery.{after}
 use Rattle.subframes.specs.SubframeHistory.{wordPage, wordsFrom, lastPage}
@@ -56,3 +56,9 @@ pub record SilentPairs : Type 0 where
   pub first-copy : answerTo (onePage 0 ∷ wordsFrom 0 14) (wordPage 14) ≡ complete 1200 2
   -- It is not "the bytes in memory are zeros", whatever the count.
   pub fourteen : answerTo (wordsFrom 0 13) (wordPage 13) ≡ nothing
+  -- What has come out is told afterwards too, with the same words: not before the last of them, and of no other satellite.
+  pub told-silent : cameOut (after newOne (wordsFrom 0 15)) 7 ≡ silent 1200 2
+  pub told-complete : cameOut (after newOne (onePage 0 ∷ wordsFrom 1 14)) 7 ≡ complete 1200 2
+  pub told-fourteen : cameOut (after newOne (wordsFrom 0 14)) 7 ≡ nothing
+  pub told-neighbour : cameOut (after newOne (wordsFrom 0 15)) 8 ≡ nothing
+  pub told-refused : cameOut (after newOne (wordsFrom 0 15)) 37 ≡ refused 2

@@ -150,3 +150,10 @@ view s size satellite =
     cond (eqb (refusal (viewChecks s satellite)) 0)
     (cond (eqb (getD (s .counts) (satellite - 1) 0) 15) (gives (size * (satellite - 1) ∷ size ∷ [])) nothing)
     (refused (refusal (viewChecks s satellite)))
+
+-- what has come out of a satellite in the record's subframe, asked of the record and the lent bytes: the answer that its last word got
+unfoldable pub cameOut : State → ℕ → Answer
+cameOut s satellite =
+    cond (eqb (refusal (viewChecks s satellite)) 0)
+    (answerAt (getD (s .counts) (satellite - 1) 0) (s .week) (s .subframe) (isSilent (s .hkroot) (s .mack) (satellite - 1)))
+    (refused (refusal (viewChecks s satellite)))

@@ -9,13 +9,13 @@ use mathlib.Core.Path.{_≡_}
 use lib.ListN.{length, getD, take, replicate}
 use Rattle.layouts.specs.Answer.{refused, nothing, refusal}
 use Rattle.layouts.specs.Gst.{svnChecks}
-use Rattle.subframes.specs.Subframe.{State, new, Page, Fed, feed}
+use Rattle.subframes.specs.Subframe.{State, new, Page, Fed, subframeOf, outOf, feed}
 use Rattle.subframes.specs.Trace.{entries, feedAll}
-use Rattle.subframes.specs.SubframePromises.{state, call, meaning-subframe, outcome, sizeOf}
-use Rattle.subframes.specs.SubframePromises.{NewSubframe, FeedSubframe, IsUsed, ViewSubframeShown, ViewSubframe, HkrootMessageRead}
+use Rattle.subframes.specs.SubframePromises.{state, call, meaning-subframe, meaning-shown, outcome, sizeOf}
+use Rattle.subframes.specs.SubframePromises.{NewSubframe, FeedSubframe, IsUsed, ViewSubframeShown, CameOut, ViewSubframe, HkrootMessageRead}
 use Rattle.subframes.specs.SubframeUsed.{newOne}
 use Rattle.subframes.specs.TracePromises.{FeedAll}
-use Rattle.subframes.specs.SubframeRecovery.{isAdmitted, before, run, after, noPage, hasWord, Words, hkrootOf, mackOf, Alike, Recovers}
+use Rattle.subframes.specs.SubframeRecovery.{isAdmitted, before, run, after, noPage, hasWord, Words, hkrootOf, mackOf, areZeros, Alike, Recovers}
 use Rattle.runs.specs.Rising.{Earliest}
 use Rattle.subframes.specs.declared.subframe.CollectSubframe.{CollectSubframe}
 use Rattle.subframes.specs.declared.subframe.SubframeAnswer.{SubframeAnswer}
@@ -39,11 +39,13 @@ pub data Call (c : CollectSubframe) (hkroot mack : List ℕ) : List Page → Sub
   many : (trace : List ℕ) (r : TraceFed) (hkroot′ mack′ : List ℕ) → FeedAll c hkroot mack trace r hkroot′ mack′
       → Call c hkroot mack (take (r .consumed) (entries trace)) (r .answer) (r .collector) hkroot′ mack′
 
--- A call that only reads: the two viewers, the message by value, and the question whether a page is used. It hands back neither record nor memory.
+-- A call that only reads: the two viewers, the message by value, what has come out, and the question whether a page is used. It hands back neither record nor
+-- memory.
 pub data Look (c : CollectSubframe) (hkroot mack : List ℕ) : Type 0 where
   question : (m : Message) (satellite : ℕ) (r : SubframeShown) → ViewSubframeShown c hkroot mack m satellite r → Look c hkroot mack
   part : (m : Message) (satellite : ℕ) (bytes : List ℕ) → ViewSubframe c hkroot mack m satellite bytes → Look c hkroot mack
   whole : (satellite : ℕ) (r : HkrootMessage) → HkrootMessageRead c hkroot mack satellite r → Look c hkroot mack
+  out : (satellite : ℕ) (r : SubframeAnswer) → CameOut c hkroot mack satellite r → Look c hkroot mack
   used : (satellite week time : ℕ) (r : WordAnswer) → IsUsed c satellite week time r → Look c hkroot mack
 
 -- lent bytes that are not 540 and 2,160
@@ -72,12 +74,15 @@ pub record ShowsPair (c : CollectSubframe) (hkroot mack : List ℕ) (r : List Pa
   pub hkroot-part : (bytes : List ℕ) → ViewSubframe c hkroot mack Hkroot satellite bytes → bytes ≡ hkrootOf (λ k. getD r (choice .at k) noPage) 15
   pub mack-part : (bytes : List ℕ) → ViewSubframe c hkroot mack Mack satellite bytes → bytes ≡ mackOf (λ k. getD r (choice .at k) noPage) 15
   pub whole : (a : HkrootMessage) → HkrootMessageRead c hkroot mack satellite a → a .bytes ≡ hkrootOf (λ k. getD r (choice .at k) noPage) 15
+  -- complete or silent, as the bytes of that choice decide, with the record's time
+  pub out : (a : SubframeAnswer) → CameOut c hkroot mack satellite a → meaning-subframe a ≡ outOf (areZeros r (choice .at)) (c .week) (c .subframe)
 
 -- and no bytes else
 pub record ShowsNone (c : CollectSubframe) (hkroot mack : List ℕ) (satellite : ℕ) (answer : SubframeShown) : Type 0 where
   pub question : (m : Message) (a : SubframeShown) → ViewSubframeShown c hkroot mack m satellite a → a ≡ answer
   pub part : (m : Message) (bytes : List ℕ) → ViewSubframe c hkroot mack m satellite bytes → bytes ≡ []
   pub whole : (a : HkrootMessage) → HkrootMessageRead c hkroot mack satellite a → a ≡ record { answer = answer; bytes = replicate 15 0 }
+  pub out : (a : SubframeAnswer) → CameOut c hkroot mack satellite a → meaning-subframe a ≡ meaning-shown answer
 
 -- A call of `feed` after a history of the pages ps.
 pub record FeedRecovers (c : CollectSubframe) (hkroot mack : List ℕ) (ps : List Page) (p : Page) (r : SubframeFed) (hkroot′ mack′ : List ℕ) : Type 0 where
@@ -129,6 +134,9 @@ pub record CodeRecovers : Type 0 where
   pub shows-refused : {c : CollectSubframe} {hkroot mack : List ℕ} {ps : List Page} → History c hkroot mack ps
       → (satellite : ℕ) → (refusal (svnChecks satellite) ≡ 0 → ⊥) → ShowsNone c hkroot mack satellite (NotShown 2)
   pub shows-misfit : (c : CollectSubframe) (x y : List ℕ) (satellite : ℕ) → Misfit x y → ShowsNone c x y satellite (NotShown 1)
+  -- the record's week and subframe are those of every page of its run
+  pub record-of-run : {c : CollectSubframe} {hkroot mack : List ℕ} {ps : List Page} → History c hkroot mack ps
+      → (j : ℕ) → j < length (run ps) → (c .week ≡ getD (run ps) j noPage .week) × (c .subframe ≡ subframeOf (getD (run ps) j noPage .time))
   pub feed-recovers : {c : CollectSubframe} {hkroot mack : List ℕ} {ps : List Page} → History c hkroot mack ps
       → (p : Page) (r : SubframeFed) (hkroot′ mack′ : List ℕ) → FeedSubframe c hkroot mack p r hkroot′ mack′
       → FeedRecovers c hkroot mack ps p r hkroot′ mack′

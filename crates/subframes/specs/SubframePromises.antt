@@ -4,7 +4,7 @@ use Prim.Native.Nat.{ℕ}
 use mathlib.Core.List.{List, [], _∷_}
 use mathlib.Core.Path.{_≡_}
 use Rattle.layouts.specs.Answer.{Answer, refused, nothing, gives, shown, Copied, copied}
-use Rattle.subframes.specs.Subframe.{State, new, Page, WordStep, takeWord, Fed, feed, usedAnswer, view}
+use Rattle.subframes.specs.Subframe.{State, new, Page, WordStep, takeWord, Fed, feed, usedAnswer, view, cameOut}
 use Rattle.subframes.specs.declared.subframe.CollectSubframe.{CollectSubframe}
 use Rattle.subframes.specs.declared.subframe.SubframeAnswer.{SubframeAnswer}
 use Rattle.subframes.specs.declared.subframe.SubframeAnswer.the-variants.{Refused, Nothing, Complete, Silent}
@@ -73,6 +73,10 @@ ViewSubframeShown c hkroot mack m satellite r = meaning-shown r ≡ view (state 
 
 abbrev pub ViewSubframe : CollectSubframe → List ℕ → List ℕ → Message → ℕ → List ℕ → Type 0
 ViewSubframe c hkroot mack m satellite r = r ≡ shown (bufferOf m hkroot mack) (view (state c hkroot mack) (sizeOf m) satellite)
+
+-- what has come out of the satellite, complete or silent
+abbrev pub CameOut : CollectSubframe → List ℕ → List ℕ → ℕ → SubframeAnswer → Type 0
+CameOut c hkroot mack satellite r = meaning-subframe r ≡ cameOut (state c hkroot mack) satellite
 
 -- "An HKROOT message is also handed over whole, as its 15 bytes, under the same rule."
 abbrev pub HkrootMessageRead : CollectSubframe → List ℕ → List ℕ → ℕ → HkrootMessage → Type 0

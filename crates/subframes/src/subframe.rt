@@ -14,7 +14,7 @@ ghost use Rattle.subframes.specs.inner.Page.{answerOf};
 ghost use Rattle.subframes.specs.inner.Subframe.{Inside, Joined, eightOf};
 ghost use Rattle.subframes.specs.SubframePromises.{state, call, meaning-subframe, meaning-shown, sizeOf};
 ghost use Rattle.subframes.specs.SubframePromises.{NewSubframe, TakeWord, FeedSubframe, IsUsed};
-ghost use Rattle.subframes.specs.SubframePromises.{ViewSubframeShown, ViewSubframe, HkrootMessageRead};
+ghost use Rattle.subframes.specs.SubframePromises.{ViewSubframeShown, CameOut, ViewSubframe, HkrootMessageRead};
 
 // How many words of a satellite's subframe have come, and to which subframe they belong; the bytes are lent by the caller.
 pub struct CollectSubframe {
@@ -365,6 +365,28 @@ pub fn view_shown(
         first: many * i,
         many,
     }
+}
+
+// What has come out of a satellite in the record's subframe, for a caller who did not keep `feed`'s answer: complete or silent with its time, nothing while
+// its words have not all come. Refuses 1 for lent bytes other than 540 and 2,160, 12 for the record, 2 for the satellite.
+pub fn came_out(
+    collector: CollectSubframe,
+    hkroot: &[u8],
+    mack: &[u8],
+    satellite: u8,
+) -> SubframeAnswer
+    ensures { λ r. ⌜ CameOut collector (now (hkroot .entry)) (now (mack .entry)) satellite r ⌝ }
+{
+    let refusal = view_refuses(collector, hkroot, mack, satellite);
+    if refusal != 0 {
+        return SubframeAnswer::Refused(refusal);
+    }
+    let i = (satellite - 1) as usize;
+    if collector.counts[i] != 15 {
+        return SubframeAnswer::Nothing;
+    }
+    let silent = page::is_silent(hkroot, mack, i);
+    out_of(silent, collector.week, collector.subframe)
 }
 
 // What is shown of the bytes.

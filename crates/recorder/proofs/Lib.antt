@@ -1,0 +1,5 @@
+pub mod TagFit
+pub mod WalkTags
+pub mod TimingList
+pub mod WalkAnswers
+pub mod CompleteAnswers
