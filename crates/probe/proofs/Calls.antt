@@ -21,6 +21,7 @@ use Rattle.dsms.specs.declared.dsm.DsmAnswer.{DsmAnswer}
 use Rattle.dsms.specs.declared.dsm.DsmFed.{DsmFed}
 use Rattle.dsms.specs.declared.dsm.DsmShown.{DsmShown}
 use Rattle.subframes.specs.declared.subframe.CollectSubframe.{CollectSubframe}
+use Rattle.subframes.specs.declared.subframe.SubframeAnswer.{SubframeAnswer}
 use Rattle.subframes.specs.declared.subframe.SubframeFed.{SubframeFed}
 use Rattle.subframes.specs.declared.subframe.SubframeShown.{SubframeShown}
 use Rattle.subframes.specs.declared.trace.TraceFed.{TraceFed}
@@ -120,6 +121,10 @@ subframe-viewed c h m of-mack satellite out {f = f} {k = k} sh ef ek p q eo et =
     view-by out (sp.bufferOf k h m) p q eo et
     ∙ ap (λ (x : CollectSubframe). viewed out (sp.bufferOf k h m) (s.view (sp.state x h m) (sp.sizeOf k) satellite)) ef
     ∙ ap (λ (x : Message). viewed out (sp.bufferOf x h m) (s.view (sp.state (ps.collectorOf c) h m) (sp.sizeOf x) satellite)) ek
+
+pub subframe-out-told : (c : SubframeRecord) (h m : List ℕ) (satellite : ℕ) {f : CollectSubframe} (x : SubframeAnswer) {t : Told}
+    → f ≡ ps.collectorOf c → sp.CameOut f h m satellite x → t ≡ told (sp.meaning-subframe x) → ps.SubframeCameOut c h m satellite t
+subframe-out-told c h m satellite x ef p et = et ∙ ap told p ∙ ap (λ (y : CollectSubframe). told (s.cameOut (sp.state y h m) satellite)) ef
 
 pub message-told : (c : SubframeRecord) (h m : List ℕ) (satellite : ℕ) {f : CollectSubframe} (x : HkrootMessage) {t : Told}
     → f ≡ ps.collectorOf c → sp.HkrootMessageRead f h m satellite x → t ≡ told (sp.meaning-shown (x .answer))

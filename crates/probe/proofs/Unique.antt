@@ -93,6 +93,10 @@ pub probe-subframe-view : (c : SubframeRecord) (h m : List ℕ) (of-mack : Bool)
 probe-subframe-view c h m of-mack satellite out r q x y p o =
     let e = p ∙ sym o in (ap (λ (k : Viewed). k .answer) e, ap (λ (k : Viewed). k .out) e)
 
+pub probe-subframe-came-out : (c : SubframeRecord) (h m : List ℕ) (satellite : ℕ) (r q : Told)
+    → ps.SubframeCameOut c h m satellite r → ps.SubframeCameOut c h m satellite q → r ≡ q
+probe-subframe-came-out c h m satellite r q p o = p ∙ sym o
+
 pub probe-subframe-hkroot-message : (c : SubframeRecord) (h m : List ℕ) (satellite : ℕ) (r q : HkrootTold)
     → ps.SubframeHkrootMessage c h m satellite r → ps.SubframeHkrootMessage c h m satellite q → r ≡ q
 probe-subframe-hkroot-message c h m satellite r q p o = ap (λ (k : ps.Message15). record { answer = k .answer; bytes = k .bytes }) (p ∙ sym o)

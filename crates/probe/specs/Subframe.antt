@@ -5,7 +5,7 @@ use mathlib.Core.List.{List, []}
 use mathlib.Core.Path.{_≡_}
 use mathlib.Core.Bool.{Bool, cond}
 use Rattle.layouts.specs.Answer.{Copied, copied}
-use Rattle.subframes.specs.Subframe.{State, Page, Fed, WordStep, takeWord, new, feed, view}
+use Rattle.subframes.specs.Subframe.{State, Page, Fed, WordStep, takeWord, new, feed, view, cameOut}
 use Rattle.subframes.specs.SubframePromises.{state, sizeOf, bufferOf}
 use Rattle.subframes.specs.Trace.{FedMany, feedAll}
 use Rattle.subframes.specs.declared.subframe.CollectSubframe.{CollectSubframe}
@@ -63,6 +63,9 @@ abbrev pub SubframeView : SubframeRecord → List ℕ → List ℕ → Bool → 
 SubframeView c hkroot mack of-mack satellite out r out-after =
     _≡_ {A = Viewed} (record { answer = r; out = out-after })
     (viewed out (bufferOf (messageOf of-mack) hkroot mack) (view (state (collectorOf c) hkroot mack) (sizeOf (messageOf of-mack)) satellite))
+
+abbrev pub SubframeCameOut : SubframeRecord → List ℕ → List ℕ → ℕ → Told → Type 0
+SubframeCameOut c hkroot mack satellite r = r ≡ told (cameOut (state (collectorOf c) hkroot mack) satellite)
 
 -- an HKROOT message in numbers and bytes
 pub record Message15 : Type 0 where

@@ -6,7 +6,7 @@ use subframes::subframe::Message;
 use subframes::subframe::WordCount;
 ghost use mathlib.Core.Path.{_≡_};
 ghost use Rattle.probe.specs.Subframe.{collectorOf, recordOf, messageOf, SubframeNew, SubframeFeed, SubframeFeedAll};
-ghost use Rattle.probe.specs.Subframe.{SubframeView, SubframeHkrootMessage, WordTake};
+ghost use Rattle.probe.specs.Subframe.{SubframeView, SubframeCameOut, SubframeHkrootMessage, WordTake};
 
 #[repr(C)]
 pub struct SubframeRecord {
@@ -141,6 +141,21 @@ pub extern "C" fn probe_subframe_view<'a>(
     let part = subframes::subframe::view(from, hkroot, mack, message, satellite);
     tell::copy(part, out);
     tell::subframe_shown(shown)
+}
+
+// `subframe::came_out`.
+#[no_mangle]
+pub extern "C" fn probe_subframe_came_out(
+    collector: SubframeRecord,
+    hkroot: &[u8],
+    mack: &[u8],
+    satellite: u8,
+) -> Told
+    ensures { λ r. ⌜ SubframeCameOut collector (now (hkroot .entry)) (now (mack .entry)) satellite r ⌝ }
+{
+    let from = collector_of(collector);
+    let answer = subframes::subframe::came_out(from, hkroot, mack, satellite);
+    tell::subframe(answer)
 }
 
 // `subframe::hkroot_message`.

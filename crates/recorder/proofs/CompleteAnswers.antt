@@ -1,22 +1,22 @@
 -- The answers of `walk_complete`: what has come out of the satellite, and the message that is walked.
 -- Assumes nothing.
-use mathlib.Core.Path.{_≡_, refl, sym, ap, _∙_}
+use mathlib.Core.Path.{_≡_, refl, sym, _∙_}
 use mathlib.Core.Bool.{Bool, true, false, cond, not, _&&_}
-use mathlib.Core.List.{List, [], _∷_, _++_}
-use Prim.Native.Nat.{ℕ, zero, suc, _+_, _-_, _*_, _%_, _≤_, _<_}
+use mathlib.Core.List.{List, [], _∷_}
+use Prim.Native.Nat.{ℕ, zero, suc, _-_, _*_, _≤_}
 use native.Mathlib.Omega.{arith}
-use lib.Dec.{T, ltb, eqb, eqb·suc-zero}
-use lib.ListN.{length, getD, take, drop, replicate, length-drop, length-take}
+use lib.Dec.{T, eqb, eqb·suc-zero}
+use lib.ListN.{length, getD, drop, length-drop, length-take}
 use borrow.Author.Tests.{ne-eqb, ltb-false, eqb-true, not-false}
 use Rattle.layouts.specs.Answer.{Answer, refused, nothing, gives, shown, refusal, answered}
 use Rattle.layouts.specs.Gst.{svnChecks}
 use Rattle.layouts.proofs.Answers.{none-fails, all-pass, pass-n, equals, stopped, went-on}
-use Rattle.subframes.specs.Subframe.{State, isSilent, outOf, answerAt, rangeChecks, viewChecks, view, cameOut}
+use Rattle.subframes.specs.Subframe.{State, isSilent, outOf, answerAt, viewChecks, view, cameOut}
 use Rattle.subframes.specs.SubframePromises.{meaning-subframe}
 use Rattle.subframes.specs.SubframeRecovery.{message}
 use Rattle.subframes.specs.declared.subframe.SubframeAnswer.{SubframeAnswer}
 use Rattle.subframes.specs.declared.subframe.SubframeAnswer.the-variants.{Refused, Nothing, Complete, Silent}
-use Rattle.recorder.specs.Walk.{Walk, verdict, unjudged, tableChecks, walkChecks, walk, messageOf, isComplete, completeChecks, walkComplete}
+use Rattle.recorder.specs.Walk.{Walk, unjudged, tableChecks, walkChecks, walk, messageOf, completeChecks, walkComplete}
 
 -- where there is no message
 pub none-refused : (k T id msg : ℕ) {q : ℕ} {w : Walk} → q ≡ refusal (tableChecks k T id msg) → (q ≡ 0 → ⊥) → w ≡ unjudged (refused q)

@@ -3,3 +3,8 @@ pub mod WalkTags
 pub mod TimingList
 pub mod WalkAnswers
 pub mod CompleteAnswers
+pub mod SlotsHold
+pub mod TimingHold
+pub mod CompleteHistory
+pub mod WalkExamples
+pub mod WalkUnique

@@ -1,16 +1,15 @@
 -- One tag at its slot: one law for each `return`.
 -- Assumes nothing.
 use mathlib.Core.Path.{_≡_, refl, sym, ap, _∙_}
-use mathlib.Core.Bool.{Bool, true, false, cond, not, _&&_}
-use mathlib.Core.List.{List, [], _∷_}
-use Prim.Native.Nat.{ℕ, zero, suc, _-_, _≤_, _<_}
+use mathlib.Core.Bool.{Bool, true, false, cond, not}
+use mathlib.Core.List.{[], _∷_}
+use Prim.Native.Nat.{ℕ, _≤_, _<_}
 use native.Mathlib.Omega.{arith}
-use lib.Dec.{leb, eqb, eqb·suc-zero}
-use lib.ListN.{getD}
+use lib.Dec.{leb, eqb}
 use borrow.Author.Tests.{eq-eqb, ne-eqb, lt-leb, le-leb}
-use Rattle.layouts.specs.Answer.{Answer, gives, refusal, answered}
+use Rattle.layouts.specs.Answer.{gives, refusal, answered}
 use Rattle.layouts.specs.Meaning.{meaning-number, object-number, slot-numbers, meaning-slot}
-use Rattle.layouts.specs.Maclt.{Slot, fixed, flex, numbers, table, rowOf, slots, entry, entryChecks}
+use Rattle.layouts.specs.Maclt.{Slot, fixed, flex, numbers, entry, entryChecks}
 use Rattle.layouts.specs.declared.answer.Number.{Number}
 use Rattle.layouts.specs.declared.answer.Number.the-variants.{Value, Refused}
 use Rattle.layouts.specs.declared.tag_info.Adkd.the-variants.{InavCed, InavTiming, SlowMac, Reserved}

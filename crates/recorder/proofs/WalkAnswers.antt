@@ -1,8 +1,8 @@
 -- The answers of `walk` and `timing_tags`: what is refused, and the verdict.
 -- Assumes nothing.
-use mathlib.Core.Path.{_≡_, refl, sym, ap, _∙_}
-use mathlib.Core.Bool.{Bool, true, false, cond, not}
-use mathlib.Core.List.{List, [], _∷_, _++_}
+use mathlib.Core.Path.{_≡_, refl, sym, _∙_}
+use mathlib.Core.Bool.{cond}
+use mathlib.Core.List.{List, [], _∷_}
 use Prim.Native.Nat.{ℕ, zero, suc, _≤_, _<_}
 use native.Mathlib.Omega.{arith}
 use lib.Dec.{T, ltb, eqb, eqb·suc-zero}
@@ -21,7 +21,7 @@ use Rattle.layouts.proofs.LookUp.{nt-few}
 use Rattle.recorder.specs.Slots.{judged, walked}
 use Rattle.recorder.specs.Timing.{timingTags, tagsListed}
 use Rattle.recorder.specs.Walk.{Walk, verdict, unjudged, tableChecks, walkChecks, walk}
-use Rattle.recorder.specs.inner.Code.{Readable, Walkable}
+use Rattle.recorder.specs.inner.Code.{Readable}
 
 -- a number that is refused, and one that is not
 number-refused : (cs : List Check) (w : ℕ) {x : Number} {n : ℕ} → meaning-number x ≡ answered (refusal cs) (gives (w ∷ [])) → x ≡ Refused n
@@ -54,7 +54,7 @@ with-refused : (cs : List Check) (a : Answer) (b o : List ℕ) {q : ℕ} → q �
 unfolding answered
 with-refused cs a b o {q} e ne = rw (← e, ne-eqb q 0 ne)
 
-with-given : (cs : List Check) (a : Answer) (b o : List ℕ) → refusal cs ≡ 0 → _≡_ {A = Copied} (record { answer = a; bytes = b }) (answeredWith cs a b o)
+pub with-given : (cs : List Check) (a : Answer) (b o : List ℕ) → refusal cs ≡ 0 → _≡_ {A = Copied} (record { answer = a; bytes = b }) (answeredWith cs a b o)
 unfolding answered
 with-given cs a b o e = rw e
 

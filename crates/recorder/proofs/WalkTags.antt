@@ -2,23 +2,23 @@
 -- Assumes nothing.
 use mathlib.Core.Path.{_≡_, refl, sym, ap, _∙_}
 use mathlib.Core.Bool.{Bool, true, false, cond}
-use mathlib.Core.List.{List, [], _∷_, _++_, map}
+use mathlib.Core.List.{List, [], _∷_, map}
 use Prim.Native.Nat.{ℕ, zero, suc, _+_, _-_, _≤_, _<_}
 use native.Mathlib.Nat.{le-of-suc-le-suc, not-suc-le-zero}
 use native.Mathlib.Omega.{arith}
-use lib.Dec.{eqb, eqb·suc-zero, leb}
+use lib.Dec.{eqb}
 use lib.ListN.{length, getD, drop, drop-of-length-le}
-use borrow.Author.Tests.{eq-eqb, ne-eqb, lt-leb, le-ltb}
-use Rattle.layouts.specs.Answer.{Answer, gives, refusal}
+use borrow.Author.Tests.{ne-eqb, lt-leb, le-ltb}
+use Rattle.layouts.specs.Answer.{gives, refusal}
 use Rattle.layouts.specs.Mack.{sizeChecks, mackChecks, nt, tagChecks}
-use Rattle.layouts.specs.Maclt.{Slot, flex, Row, row, table, rowOf, slots, entryChecks}
+use Rattle.layouts.specs.Maclt.{Slot, flex, Row, table, rowOf, slots, entryChecks}
 use Rattle.layouts.proofs.Answers.{all-pass, none-fails, went-on}
 use Rattle.layouts.proofs.Readers.{first-of, second-of}
 use Rattle.layouts.proofs.Layouts.{tags-at-least-four}
 use Rattle.layouts.proofs.MacltTable.{filled}
 use Rattle.recorder.specs.Slots.{adkdAt, prndAt, broken, brokenAt, walked}
 use Rattle.recorder.specs.WalkPromises.{field-number}
-use Rattle.recorder.specs.inner.Code.{Readable, Walkable, fit-number}
+use Rattle.recorder.specs.inner.Code.{Readable, fit-number}
 use Rattle.recorder.specs.declared.slots.SlotFit.{SlotFit}
 use Rattle.recorder.specs.declared.slots.SlotFit.the-variants.{Fits, Breaks}
 use Rattle.recorder.specs.declared.slots.TagField.{TagField}
@@ -44,7 +44,9 @@ of-row f g k (r ∷ rs) e ne = go (eqb k (r .id)) (of-row f g k rs later) ne
 pub as-many : (id msg : ℕ) → (rowOf id table .nt ≡ 0 → ⊥) → length (slots msg (rowOf id table)) + 1 ≡ rowOf id table .nt
 as-many id msg ne = go (eqb msg 0)
   where
-    both : _≡_ {A = List ℕ} ((length (rowOf id table .message0) + 1) ∷ (length (rowOf id table .message1) + 1) ∷ []) (rowOf id table .nt ∷ rowOf id table .nt ∷ [])
+    both :
+        _≡_ {A = List ℕ} ((length (rowOf id table .message0) + 1) ∷ (length (rowOf id table .message1) + 1) ∷ [])
+        (rowOf id table .nt ∷ rowOf id table .nt ∷ [])
     both =
         of-row (λ (r : Row). (length (r .message0) + 1) ∷ (length (r .message1) + 1) ∷ []) (λ (r : Row). r .nt ∷ r .nt ∷ []) id table filled ne
 

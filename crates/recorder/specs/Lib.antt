@@ -2,4 +2,9 @@ pub mod Slots
 pub mod Timing
 pub mod Walk
 pub mod WalkPromises
+pub mod Agreed
+pub mod SlotsHold
+pub mod TimingHold
+pub mod CompleteHistory
+pub mod WalkExamples
 pub mod inner

@@ -40,8 +40,9 @@ unfoldable pub walk : List ℕ → ℕ → ℕ → ℕ → ℕ → ℕ → Walk
 walk m k T sender id msg =
     cond (eqb (refusal (walkChecks m k T sender id msg)) 0) (verdict m k T sender id msg) (unjudged (refused (refusal (walkChecks m k T sender id msg))))
 
--- Of a satellite whose pair is complete in the collector's record: its 60 bytes, itself the sender, and the message number of the record's subframe. A message is 0
--- in the first half of a minute and 1 in the second; a week has 20,160 subframes, an even number, so that this goes on over a week's end.
+-- Of a satellite whose pair is complete in the collector's record: its 60 bytes, itself the sender, and the message number of the record's subframe. A message
+-- is 0 in the first half of a minute and 1 in the second; a week has 20,160 subframes, an even number, so that this goes on over a week's end
+-- (`HalfMinutes`, CompleteHistory.antt).
 abbrev pub messageOf : State → ℕ
 messageOf s = s .subframe % 2
 

@@ -7,14 +7,14 @@ use layouts::maclt::MacLTSlot;
 use layouts::maclt::MacLTSlotAnswer;
 use layouts::tag_info::Adkd;
 ghost use mathlib.Core.Path.{_≡_};
-ghost use Prim.Native.Nat.{_≤_, _<_};
+ghost use Prim.Native.Nat.{_<_};
 ghost use Rattle.layouts.specs.Answer.{refusal as refusalOf};
-ghost use Rattle.layouts.specs.Mack.{tagChecks, nt as tagsIn};
+ghost use Rattle.layouts.specs.Mack.{tagChecks};
 ghost use Rattle.layouts.specs.Maclt.{table, rowOf, slots, entryChecks};
 ghost use Rattle.layouts.specs.Meaning.{object-number};
-ghost use Rattle.recorder.specs.Slots.{adkdAt, prndAt, prndFits, slotAt, broken, brokenAt, walked};
+ghost use Rattle.recorder.specs.Slots.{adkdAt, prndAt, prndFits, broken, brokenAt, walked};
 ghost use Rattle.recorder.specs.WalkPromises.{meaning-slots};
-ghost use Rattle.recorder.specs.inner.Code.{slotOf, adkdNumber, fit-number, Readable, Walkable};
+ghost use Rattle.recorder.specs.inner.Code.{slotOf, adkdNumber, fit-number, Walkable};
 
 // The field of a tag that breaks its slot.
 pub enum TagField {

@@ -14,7 +14,6 @@ use subframes::subframe::Message;
 use subframes::subframe::SubframeAnswer;
 ghost use mathlib.Core.Path.{_≡_};
 ghost use Rattle.layouts.specs.Answer.{refusal as refusalOf, answered, refused as refusedWith, nothing};
-ghost use Rattle.subframes.specs.SubframePromises.{state};
 ghost use Rattle.layouts.specs.Mack.{sizeChecks, nt as tagsIn};
 ghost use Rattle.layouts.specs.Maclt.{table, rowOf};
 ghost use Rattle.recorder.specs.Walk.{unjudged, verdict, tableChecks, walkChecks};
@@ -113,8 +112,9 @@ fn judge(mack: &[u8], key_size: usize, tag_size: usize, sender: u8, maclt: u8, m
     }
 }
 
-// The first tag that breaks its slot, or that all fit, or that table and message have not as many tags; and the tags that hold ADKD 4, whether or not the slots
-// fit. Refuses 1 for a message of other than 60 bytes, 2 for the sender, 7 for a size that no KROOT gives or a message number above 1, 8 for an unknown ID.
+// The first tag that breaks its slot, or that all fit, or that table and message have not as many tags; and the tags that hold ADKD 4, whether or not the
+// slots fit. Refuses 1 for a message of other than 60 bytes, 2 for the sender, 7 for a size that no KROOT gives or a message number above 1, 8 for an ID that
+// no table has.
 pub fn walk(
     mack: &[u8],
     key_size: usize,
@@ -149,9 +149,9 @@ fn no_message(key_size: usize, tag_size: usize, maclt: u8, msg: usize) -> Walked
     }
 }
 
-// `walk` of the MACK message that the collector has put together of a satellite: its 60 bytes, the sender and the message number are the collector's, so that
-// they cannot be given wrongly. Nothing while the pair is not complete, and of a silent one. Refuses 1 for lent bytes other than 540 and 2,160, 12 for the record,
-// 2 for the satellite, 7 for a size that no KROOT gives, 8 for an unknown ID.
+// `walk` of the MACK message that the collector has put together of a satellite: the 60 bytes, the sender and the message number are the collector's, so that
+// no caller can mix them up. Nothing while the pair is not complete, and of a silent one. Refuses 1 for lent bytes other than 540 and 2,160, 12 for the record,
+// 2 for the satellite, 7 for a size that no KROOT gives, 8 for an ID that no table has.
 pub fn walk_complete<'a>(
     collector: CollectSubframe,
     hkroot: &'a [u8],

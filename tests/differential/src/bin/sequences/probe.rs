@@ -125,6 +125,14 @@ mod c {
             out: *mut u8,
             out_len: usize,
         ) -> Told;
+        pub fn probe_subframe_came_out(
+            collector: SubframeRecord,
+            hkroot: *const u8,
+            hkroot_len: usize,
+            mack: *const u8,
+            mack_len: usize,
+            satellite: u8,
+        ) -> Told;
         pub fn probe_subframe_hkroot_message(
             collector: SubframeRecord,
             hkroot: *const u8,
@@ -221,6 +229,10 @@ pub fn subframe_view(
 ) -> Told {
     let (h, hl, m, ml) = (h.as_ptr(), h.len(), m.as_ptr(), m.len());
     unsafe { c::probe_subframe_view(collector, h, hl, m, ml, of_mack, satellite, out.as_mut_ptr(), out.len()) }
+}
+
+pub fn subframe_came_out(collector: SubframeRecord, h: &[u8], m: &[u8], satellite: u8) -> Told {
+    unsafe { c::probe_subframe_came_out(collector, h.as_ptr(), h.len(), m.as_ptr(), m.len(), satellite) }
 }
 
 pub fn subframe_hkroot_message(collector: SubframeRecord, h: &[u8], m: &[u8], satellite: u8) -> HkrootTold {

@@ -1,5 +1,5 @@
-//! The subframe collector: `feed`, `feed_all`, the view, the question beside it and `hkroot_message` against
-//! `CollectSubframe`.
+//! The subframe collector: `feed`, `feed_all`, the view, the question beside it, `came_out` and `hkroot_message`
+//! against `CollectSubframe`.
 use crate::probe::{self, Buffers, SubframeRecord, Told, When};
 use crate::{caught, hex, refusal};
 use differential::fields::Fields;
@@ -18,8 +18,13 @@ pub struct Page {
     when: When,
 }
 
-/// What the Rust hands out of a subframe.
-type Bytes = ([u8; 15], [u8; 60]);
+/// What the Rust handed out of a satellite, and the answer that it came to.
+#[derive(Clone, Copy)]
+struct Handed {
+    hkroot: [u8; 15],
+    mack: [u8; 60],
+    answer: Told,
+}
 
 /// What makes a record a bad one.
 #[derive(Clone, Copy, Debug)]
@@ -97,7 +102,7 @@ pub struct Subframes {
     zeros: bool,
     /// The Rust's week and subframe, and what it handed out since they changed.
     at: (u64, u64),
-    out: Vec<Option<Bytes>>,
+    out: Vec<Option<Handed>>,
     calls: u64,
 }
 
@@ -118,10 +123,11 @@ impl Subframes {
         }
         Ok(match said {
             None => Told::NOTHING,
-            Some((h, m, gst)) => {
-                self.out[usize::from(satellite) - 1] = Some((h, m));
-                let silent = h == [0; 15] && m == [0; 60];
-                Told::given(gst.wn().into(), gst.tow().into(), silent.into())
+            Some((hkroot, mack, gst)) => {
+                let silent = hkroot == [0; 15] && mack == [0; 60];
+                let answer = Told::given(gst.wn().into(), gst.tow().into(), silent.into());
+                self.out[usize::from(satellite) - 1] = Some(Handed { hkroot, mack, answer });
+                answer
             }
         })
     }
@@ -131,7 +137,7 @@ impl Subframes {
         if answer.kind != 1 {
             return Came::Nothing;
         }
-        let (hkroot, mack) = self.out[usize::from(satellite) - 1].expect("a pair");
+        let Handed { hkroot, mack, .. } = self.out[usize::from(satellite) - 1].expect("a pair");
         let pair = [&hkroot[..], &mack[..]].concat();
         let loud: Vec<usize> = (0..75).filter(|place| pair[*place] != 0).collect();
         match loud[..] {
@@ -229,7 +235,7 @@ impl Subframes {
         Ok(())
     }
 
-    /// The views of a satellite against what the Rust handed out.
+    /// The views of a satellite, and what is said to have come out, against what the Rust handed out.
     fn view(&self, record: SubframeRecord, lent: Lent, satellite: u8) -> Result<(), String> {
         let number = refusal([
             (1, lent.hkroot != HKROOT),
@@ -239,6 +245,12 @@ impl Subframes {
         ]);
         let held = if number == 0 { self.out[usize::from(satellite) - 1] } else { None };
         let (h, m) = (&self.hkroot[..lent.hkroot], &self.mack[..lent.mack]);
+        let out = probe::subframe_came_out(record, h, m, satellite);
+        let nothing = if number == 0 { Told::NOTHING } else { Told::refused(number) };
+        let answer = held.map_or(nothing, |pair| pair.answer);
+        if out != answer {
+            return Err(format!("came_out of {satellite}: {out:?}, expected {answer:?}"));
+        }
         for (of_mack, size) in [(false, 15), (true, 60)] {
             let mut out = [0x5a; 64];
             let told = probe::subframe_view(record, h, m, of_mack, satellite, &mut out);
@@ -246,7 +258,7 @@ impl Subframes {
             let answer = match held {
                 _ if number != 0 => Told::refused(number),
                 None => Told::NOTHING,
-                Some((hkroot, mack)) => {
+                Some(Handed { hkroot, mack, .. }) => {
                     expected[..size].copy_from_slice(if of_mack { &mack } else { &hkroot });
                     Told::given(size as u64 * (u64::from(satellite) - 1), size as u64, 0)
                 }
@@ -257,7 +269,7 @@ impl Subframes {
             }
             if !of_mack {
                 let message = probe::subframe_hkroot_message(record, h, m, satellite);
-                if message.answer != answer || message.bytes != held.map_or([0; 15], |pair| pair.0) {
+                if message.answer != answer || message.bytes != held.map_or([0; 15], |pair| pair.hkroot) {
                     return Err(format!("hkroot_message of {satellite}: {:?}", message.answer));
                 }
             }
