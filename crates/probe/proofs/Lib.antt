@@ -1,3 +1,4 @@
 pub mod Telling
 pub mod Calls
+pub mod WalkCalls
 pub mod Unique

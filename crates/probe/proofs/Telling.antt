@@ -12,6 +12,7 @@ use Rattle.dsms.specs.DsmPromises.{meaning-dsm, meaning-shown as meaning-dsm-sh
 use Rattle.subframes.specs.SubframePromises.{meaning-subframe, meaning-shown, meaning-word}
 use Rattle.storage.specs.StorePromises.{meaning-store, meaning-found}
 use Rattle.transmitter.specs.WritePromises.{meaning-written, meaning-header}
+use Rattle.recorder.specs.WalkPromises.{meaning-slots, meaning-count}
 use Rattle.subframes.specs.declared.subframe.SubframeAnswer.{SubframeAnswer}
 use Rattle.subframes.specs.declared.subframe.SubframeAnswer.the-variants.{Refused, Nothing, Complete, Silent}
 use Rattle.subframes.specs.declared.subframe.SubframeShown.{SubframeShown}
@@ -30,6 +31,12 @@ use Rattle.transmitter.specs.declared.answer.WriteAnswer.{WriteAnswer}
 use Rattle.transmitter.specs.declared.answer.WriteAnswer.the-variants.{Wrote, Refused as NotWritten}
 use Rattle.transmitter.specs.declared.blocks.BlockHeader.{BlockHeader}
 use Rattle.transmitter.specs.declared.blocks.BlockHeader.the-variants.{Byte, Refused as NotCut}
+use Rattle.recorder.specs.declared.slots.TagField.{TagField}
+use Rattle.recorder.specs.declared.slots.TagField.the-variants.{Adkd, Prnd}
+use Rattle.recorder.specs.declared.slots.SlotsAnswer.{SlotsAnswer}
+use Rattle.recorder.specs.declared.slots.SlotsAnswer.the-variants.{AllFit, Breaks, TagsDiffer, Nothing as NoSlots, Refused as SlotsRefused}
+use Rattle.recorder.specs.declared.timing.TimingCount.{TimingCount}
+use Rattle.recorder.specs.declared.timing.TimingCount.the-variants.{Tags, Nothing as NoTags, Refused as TagsRefused}
 use Rattle.probe.specs.Telling.{told, copiedTo}
 use Rattle.probe.specs.declared.tell.Told.{Told}
 
@@ -165,6 +172,48 @@ module _ {x : BlockHeader} {r : Told} where
   pub header-byte : {n : ℕ} → x ≡ Byte n → r ≡ numbers 1 n 0 0 → r ≡ told (meaning-header x)
   unfolding told
   header-byte e g = g ∙ sym (ap (λ (y : BlockHeader). told (meaning-header y)) e)
+
+-- the slots of a walk, and how many tags hold ADKD 4
+module _ {x : SlotsAnswer} {r : Told} where
+  pub slots-refused : {n : ℕ} → x ≡ SlotsRefused n → r ≡ numbers 2 n 0 0 → r ≡ told (meaning-slots x)
+  unfolding told
+  slots-refused e g = g ∙ sym (ap (λ (y : SlotsAnswer). told (meaning-slots y)) e)
+
+  pub slots-nothing : x ≡ NoSlots → r ≡ numbers 0 0 0 0 → r ≡ told (meaning-slots x)
+  unfolding told
+  slots-nothing e g = g ∙ sym (ap (λ (y : SlotsAnswer). told (meaning-slots y)) e)
+
+  pub slots-fit : x ≡ AllFit → r ≡ numbers 1 0 0 0 → r ≡ told (meaning-slots x)
+  unfolding told
+  slots-fit e g = g ∙ sym (ap (λ (y : SlotsAnswer). told (meaning-slots y)) e)
+
+  module _ {n : ℕ} {f : TagField} (e : x ≡ Breaks n f) where
+    pub breaks-adkd : f ≡ Adkd → r ≡ numbers 1 1 n 1 → r ≡ told (meaning-slots x)
+    unfolding told
+    breaks-adkd h g =
+        g ∙ sym (ap (λ (y : SlotsAnswer). told (meaning-slots y)) (e ∙ ap (λ (k : TagField). Breaks n k) h))
+
+    pub breaks-prnd : f ≡ Prnd → r ≡ numbers 1 1 n 2 → r ≡ told (meaning-slots x)
+    unfolding told
+    breaks-prnd h g =
+        g ∙ sym (ap (λ (y : SlotsAnswer). told (meaning-slots y)) (e ∙ ap (λ (k : TagField). Breaks n k) h))
+
+  pub tags-differ : {a b : ℕ} → x ≡ TagsDiffer a b → r ≡ numbers 1 2 a b → r ≡ told (meaning-slots x)
+  unfolding told
+  tags-differ e g = g ∙ sym (ap (λ (y : SlotsAnswer). told (meaning-slots y)) e)
+
+module _ {x : TimingCount} {r : Told} where
+  pub count-refused : {n : ℕ} → x ≡ TagsRefused n → r ≡ numbers 2 n 0 0 → r ≡ told (meaning-count x)
+  unfolding told
+  count-refused e g = g ∙ sym (ap (λ (y : TimingCount). told (meaning-count y)) e)
+
+  pub count-nothing : x ≡ NoTags → r ≡ numbers 0 0 0 0 → r ≡ told (meaning-count x)
+  unfolding told
+  count-nothing e g = g ∙ sym (ap (λ (y : TimingCount). told (meaning-count y)) e)
+
+  pub count-tags : {n : ℕ} → x ≡ Tags n → r ≡ numbers 1 n 0 0 → r ≡ told (meaning-count x)
+  unfolding told
+  count-tags e g = g ∙ sym (ap (λ (y : TimingCount). told (meaning-count y)) e)
 
 -- the copy of a view
 pub copy-short : (out bytes : List ℕ) → length out < length bytes → out ≡ copiedTo out bytes

@@ -12,6 +12,7 @@ use Rattle.probe.specs.Dsm as pd
 use Rattle.probe.specs.Subframe as ps
 use Rattle.probe.specs.Store as pm
 use Rattle.probe.specs.Writers as pw
+use Rattle.probe.specs.Walks as pk
 use Rattle.probe.specs.declared.tell.Told.{Told}
 use Rattle.probe.specs.declared.dsm.DsmRecord.{DsmRecord}
 use Rattle.probe.specs.declared.dsm.DsmCalled.{DsmCalled}
@@ -27,6 +28,8 @@ use Rattle.probe.specs.declared.writers.KrootCalled.{KrootCalled}
 use Rattle.probe.specs.declared.writers.PkrRecord.{PkrRecord}
 use Rattle.probe.specs.declared.writers.PkrCalled.{PkrCalled}
 use Rattle.probe.specs.declared.writers.BlockCalled.{BlockCalled}
+use Rattle.probe.specs.declared.walks.WalkTold.{WalkTold}
+use Rattle.probe.specs.declared.walks.TimingTold.{TimingTold}
 
 -- the records are their states without the lent bytes
 abbrev dsm-back : d.State → DsmRecord
@@ -138,3 +141,14 @@ probe-kroot-values m r q p o = p ∙ sym o
 
 pub probe-pkr-values : (m : List ℕ) (r q : PkrCalled) → pw.ReadPkrValues m r → pw.ReadPkrValues m q → r ≡ q
 probe-pkr-values m r q p o = p ∙ sym o
+
+-- the recorder
+pub probe-walk : (m : List ℕ) (k T sender id msg : ℕ) (r q : WalkTold) → pk.WalkSlots m k T sender id msg r → pk.WalkSlots m k T sender id msg q → r ≡ q
+probe-walk m k T sender id msg r q p o = p ∙ sym o
+
+pub probe-timing-tags : (m : List ℕ) (k T : ℕ) (r q : TimingTold) → pk.TimingTagsRead m k T r → pk.TimingTagsRead m k T q → r ≡ q
+probe-timing-tags m k T r q p o = p ∙ sym o
+
+pub probe-walk-complete : (c : SubframeRecord) (h m : List ℕ) (satellite k T id : ℕ) (r q : WalkTold)
+    → pk.WalkComplete c h m satellite k T id r → pk.WalkComplete c h m satellite k T id q → r ≡ q
+probe-walk-complete c h m satellite k T id r q p o = p ∙ sym o

@@ -3,3 +3,4 @@ pub mod Subframe
 pub mod Dsm
 pub mod Store
 pub mod Writers
+pub mod Walks

@@ -1,6 +1,7 @@
-// The collectors and the writers for tests and measurements in other languages: records go by value, an answer is four numbers.
+// The collectors, the recorder and the writers for tests and measurements in other languages: records go by value, an answer is four numbers.
 mod dsm;
 mod store;
 mod subframe;
 mod tell;
+mod walks;
 mod writers;

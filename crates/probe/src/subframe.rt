@@ -40,7 +40,7 @@ pub struct WordTold {
     pub answer: Told,
 }
 
-fn collector_of(from: SubframeRecord) -> CollectSubframe
+pub(crate) fn collector_of(from: SubframeRecord) -> CollectSubframe
     ensures { λ r. ⌜ r ≡ collectorOf from ⌝ }
 {
     let counts = from.counts;

@@ -2,6 +2,9 @@
 use dsms::dsm::DsmAnswer;
 use dsms::dsm::DsmShown;
 use layouts::dsm_header::DsmType;
+use recorder::slots::SlotsAnswer;
+use recorder::slots::TagField;
+use recorder::timing::TimingCount;
 use storage::mack_storage::MackFound;
 use storage::mack_storage::StoreAnswer;
 use subframes::subframe::SubframeAnswer;
@@ -14,6 +17,7 @@ ghost use Rattle.dsms.specs.DsmPromises.{meaning-dsm, meaning-shown as meaning-
 ghost use Rattle.subframes.specs.SubframePromises.{meaning-subframe, meaning-shown, meaning-word};
 ghost use Rattle.storage.specs.StorePromises.{meaning-store, meaning-found};
 ghost use Rattle.transmitter.specs.WritePromises.{meaning-written, meaning-header};
+ghost use Rattle.recorder.specs.WalkPromises.{meaning-slots, meaning-count};
 ghost use Rattle.probe.specs.Telling.{told, copiedTo};
 
 // Kind 0 is nothing, 1 an answer with at most three numbers, zeros behind them, 2 a refusal with its number first.
@@ -172,5 +176,30 @@ pub(crate) fn header(answer: BlockHeader) -> Told
     match answer {
         BlockHeader::Refused(n) => refused(n),
         BlockHeader::Byte(n) => given(n as u64, 0, 0),
+    }
+}
+
+pub(crate) fn slots(answer: SlotsAnswer) -> Told
+    ensures { λ r. ⌜ r ≡ told (meaning-slots answer) ⌝ }
+{
+    match answer {
+        SlotsAnswer::Refused(n) => refused(n),
+        SlotsAnswer::Nothing => nothing(),
+        SlotsAnswer::AllFit => given(0, 0, 0),
+        SlotsAnswer::Breaks { tag, field } => match field {
+            TagField::Adkd => given(1, tag as u64, 1),
+            TagField::Prnd => given(1, tag as u64, 2),
+        },
+        SlotsAnswer::TagsDiffer { table, message } => given(2, table as u64, message as u64),
+    }
+}
+
+pub(crate) fn timing(count: TimingCount) -> Told
+    ensures { λ r. ⌜ r ≡ told (meaning-count count) ⌝ }
+{
+    match count {
+        TimingCount::Refused(n) => refused(n),
+        TimingCount::Nothing => nothing(),
+        TimingCount::Tags(n) => given(n as u64, 0, 0),
     }
 }

@@ -7,6 +7,8 @@ use mathlib.Core.Bool.{true, false}
 use mathlib.Core.Path.{_≡_}
 use lib.ListN.{length, take, drop, replicate}
 use Rattle.layouts.specs.Answer.{Answer, refused, nothing, gives}
+use Rattle.layouts.specs.Maclt.{table, rowOf, slots}
+use Rattle.layouts.specs.MacltTable.{timing as slotTiming}
 use Rattle.subframes.specs.Subframe.{State, Page}
 use Rattle.subframes.specs.SubframePromises.{call}
 use Rattle.subframes.specs.SubframeRecovery.{after}
@@ -56,6 +58,9 @@ pub record WalkExamples : Type 0 where
   pub more : walk (mack (tag 0 0) (tag 0 0) (tag 0 0) (tag 0 0) (tag 0 0) (tag 0 4)) 16 40 2 28 1 ≡ both (gives (2 ∷ 10 ∷ 6 ∷ [])) (5 ∷ [])
   -- table 35, message 1 (F F 12S F F): a flexible slot takes any tag
   pub flexible : walk (mack (tag 0 0) (tag 0 15) (tag 200 3) (tag 2 12) (tag 2 4) (tag 37 9)) 16 40 2 35 1 ≡ both allFit (4 ∷ [])
+  -- so that the list is the table's own only where the message has no FLX slot (`ListIsTable`): tag 3 of table 27, and none of table 35
+  pub own-of-27 : slotTiming 1 (slots 1 (rowOf 27 table)) ≡ 3 ∷ []
+  pub own-of-35 : slotTiming 1 (slots 1 (rowOf 35 table)) ≡ []
   -- tag 0 has no ADKD: what stands there is of MACSEQ and COP
   pub tag-0 : walk (mack (tag 255 4) (tag 7 0) (tag 36 0) (tag 7 0) (tag 2 12) (tag 2 0)) 16 40 2 27 0 ≡ both allFit []
   -- the list of the message alone, of nine tags too (a key of 12 bytes, tags of 20 bits: the info of each has ADKD 4 where all bytes are 44 hexadecimal)
