@@ -17,6 +17,12 @@ mod pages;
 #[allow(dead_code, unused_imports)]
 mod probe;
 mod readers;
+#[cfg(target_arch = "x86_64")]
+#[path = "../../tests/differential/src/bin/walks/recorder.rs"]
+#[allow(dead_code)]
+mod recorder;
+#[cfg(target_arch = "x86_64")]
+mod walks;
 
 /// How often each work is timed; the least time counts.
 const REPEATS: usize = 15;
@@ -141,6 +147,7 @@ fn main() {
         }
         pages::run(number(1).unwrap_or(2_000_000));
         collectors::run();
+        walks::run();
     }
     if table {
         println!("\n| reader | Rust, ns | C boundary, ns | of the Rust's time |\n|---|---|---|---|");

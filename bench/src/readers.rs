@@ -12,7 +12,7 @@ const ROUNDS: usize = 2000;
 const KEY_SIZE_BYTES: u64 = 16;
 
 /// A key's size as the Rust counts it, for comparison with it.
-fn bits_of(key_size_bytes: u64) -> u64 {
+pub fn bits_of(key_size_bytes: u64) -> u64 {
     8 * key_size_bytes
 }
 

@@ -39,23 +39,27 @@ fn walk_told(walked: Walked) -> WalkTold
 #[no_mangle]
 pub extern "C" fn probe_walk(
     mack: &[u8],
-    key_size: usize,
-    tag_size: usize,
+    key_size_bytes: usize,
+    tag_size_bits: usize,
     sender: u8,
     maclt: u8,
     msg: usize,
 ) -> WalkTold
-    ensures { λ r. ⌜ WalkSlots (now (mack .entry)) «key_size» «tag_size» sender maclt msg r ⌝ }
+    ensures { λ r. ⌜ WalkSlots (now (mack .entry)) «key_size_bytes» «tag_size_bits» sender maclt msg r ⌝ }
 {
-    walk_told(recorder::walk::walk(mack, key_size, tag_size, sender, maclt, msg))
+    walk_told(recorder::walk::walk(mack, key_size_bytes, tag_size_bits, sender, maclt, msg))
 }
 
 // `timing::timing_tags`.
 #[no_mangle]
-pub extern "C" fn probe_timing_tags(mack: &[u8], key_size: usize, tag_size: usize) -> TimingTold
-    ensures { λ r. ⌜ TimingTagsRead (now (mack .entry)) «key_size» «tag_size» r ⌝ }
+pub extern "C" fn probe_timing_tags(
+    mack: &[u8],
+    key_size_bytes: usize,
+    tag_size_bits: usize,
+) -> TimingTold
+    ensures { λ r. ⌜ TimingTagsRead (now (mack .entry)) «key_size_bytes» «tag_size_bits» r ⌝ }
 {
-    let listed = recorder::timing::timing_tags(mack, key_size, tag_size);
+    let listed = recorder::timing::timing_tags(mack, key_size_bytes, tag_size_bits);
     let count = listed.count;
     let tags = listed.tags;
     TimingTold {
@@ -71,11 +75,11 @@ pub extern "C" fn probe_walk_complete<'a>(
     hkroot: &'a [u8],
     mack: &'a [u8],
     satellite: u8,
-    key_size: usize,
-    tag_size: usize,
+    key_size_bytes: usize,
+    tag_size_bits: usize,
     maclt: u8,
 ) -> WalkTold
-    ensures { λ r. ⌜ WalkComplete collector (now (hkroot .entry)) (now (mack .entry)) satellite «key_size» «tag_size» maclt r ⌝ }
+    ensures { λ r. ⌜ WalkComplete collector (now (hkroot .entry)) (now (mack .entry)) satellite «key_size_bytes» «tag_size_bits» maclt r ⌝ }
 {
     let from = subframe::collector_of(collector);
     walk_told(recorder::walk::walk_complete(
@@ -83,8 +87,8 @@ pub extern "C" fn probe_walk_complete<'a>(
         hkroot,
         mack,
         satellite,
-        key_size,
-        tag_size,
+        key_size_bytes,
+        tag_size_bits,
         maclt,
     ))
 }

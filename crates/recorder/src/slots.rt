@@ -7,7 +7,6 @@ use layouts::maclt::MacLTSlot;
 use layouts::maclt::MacLTSlotAnswer;
 use layouts::tag_info::Adkd;
 ghost use mathlib.Core.Path.{_≡_};
-ghost use Prim.Native.Nat.{_<_};
 ghost use Rattle.layouts.specs.Answer.{refusal as refusalOf};
 ghost use Rattle.layouts.specs.Mack.{tagChecks};
 ghost use Rattle.layouts.specs.Maclt.{table, rowOf, slots, entryChecks};
@@ -22,8 +21,8 @@ pub enum TagField {
     Prnd,
 }
 
-// All tags fit their slots; or the first that breaks its slot, and the field that broke it; or table and message have not as many tags, and no tag was judged.
-// `Nothing` says that there is no message to judge: `walk_complete` alone answers it.
+// All tags fit their slots; or the first that breaks its slot, and the field that broke it; or the table's nt and the message's, which differ, and no tag was
+// judged. `Nothing` says that there is no message to judge: `walk_complete` alone answers it.
 pub enum SlotsAnswer {
     AllFit,
     Breaks { tag: u8, field: TagField },
@@ -94,22 +93,22 @@ fn fit(slot: MacLTSlot, sender: u64, adkd: u64, prnd: u64) -> SlotFit
 }
 
 // ADKD of tag `n`, as it stands.
-pub(crate) fn adkd_at(mack: &[u8], key_size: usize, tag_size: usize, n: usize) -> u64
-    requires { ⌜ refusalOf (tagChecks (now mack) «key_size» «tag_size» n) ≡ 0 ⌝ }
-    ensures { λ r. ⌜ r ≡ adkdAt (now (mack .entry)) «tag_size» n ⌝ }
+pub(crate) fn adkd_at(mack: &[u8], key_size_bytes: usize, tag_size_bits: usize, n: usize) -> u64
+    requires { ⌜ refusalOf (tagChecks (now mack) «key_size_bytes» «tag_size_bits» n) ≡ 0 ⌝ }
+    ensures { λ r. ⌜ r ≡ adkdAt (now (mack .entry)) «tag_size_bits» n ⌝ }
 {
-    match mack::adkd_number(mack, key_size, tag_size, n) {
+    match mack::adkd_number(mack, key_size_bytes, tag_size_bits, n) {
         Number::Refused(_) => 0,
         Number::Value(v) => v,
     }
 }
 
 // PRND of tag `n`, as it stands.
-fn prnd_at(mack: &[u8], key_size: usize, tag_size: usize, n: usize) -> u64
-    requires { ⌜ refusalOf (tagChecks (now mack) «key_size» «tag_size» n) ≡ 0 ⌝ }
-    ensures { λ r. ⌜ r ≡ prndAt (now (mack .entry)) «tag_size» n ⌝ }
+fn prnd_at(mack: &[u8], key_size_bytes: usize, tag_size_bits: usize, n: usize) -> u64
+    requires { ⌜ refusalOf (tagChecks (now mack) «key_size_bytes» «tag_size_bits» n) ≡ 0 ⌝ }
+    ensures { λ r. ⌜ r ≡ prndAt (now (mack .entry)) «tag_size_bits» n ⌝ }
 {
-    match mack::prnd_number(mack, key_size, tag_size, n) {
+    match mack::prnd_number(mack, key_size_bytes, tag_size_bits, n) {
         Number::Refused(_) => 0,
         Number::Value(v) => v,
     }
@@ -118,18 +117,18 @@ fn prnd_at(mack: &[u8], key_size: usize, tag_size: usize, n: usize) -> u64
 // Tag `n` at its slot.
 fn tag_fit(
     mack: &[u8],
-    key_size: usize,
-    tag_size: usize,
+    key_size_bytes: usize,
+    tag_size_bits: usize,
     sender: u8,
     maclt: u8,
     msg: usize,
     n: usize,
 ) -> SlotFit
-    requires { ⌜ (refusalOf (tagChecks (now mack) «key_size» «tag_size» n) ≡ 0) × (refusalOf (entryChecks maclt msg n) ≡ 0) ⌝ }
-    ensures { λ r. ⌜ fit-number r ≡ brokenAt (now (mack .entry)) «tag_size» sender maclt msg n ⌝ }
+    requires { ⌜ (refusalOf (tagChecks (now mack) «key_size_bytes» «tag_size_bits» n) ≡ 0) × (refusalOf (entryChecks maclt msg n) ≡ 0) ⌝ }
+    ensures { λ r. ⌜ fit-number r ≡ brokenAt (now (mack .entry)) «tag_size_bits» sender maclt msg n ⌝ }
 {
-    let adkd = adkd_at(mack, key_size, tag_size, n);
-    let prnd = prnd_at(mack, key_size, tag_size, n);
+    let adkd = adkd_at(mack, key_size_bytes, tag_size_bits, n);
+    let prnd = prnd_at(mack, key_size_bytes, tag_size_bits, n);
     match maclt::get_maclt_entry(maclt, msg, n) {
         MacLTSlotAnswer::Refused(_) => SlotFit::Fits,
         MacLTSlotAnswer::Slot(slot) => fit(slot, sender as u64, adkd, prnd),
@@ -139,19 +138,27 @@ fn tag_fit(
 // Tags 1 to nt-1 at their slots.
 pub(crate) fn walk_tags(
     mack: &[u8],
-    key_size: usize,
-    tag_size: usize,
+    key_size_bytes: usize,
+    tag_size_bits: usize,
     sender: u8,
     maclt: u8,
     msg: usize,
     nt: u8,
 ) -> SlotsAnswer
-    requires { ⌜ Walkable (now mack) «key_size» «tag_size» maclt msg nt ⌝ }
-    ensures { λ r. ⌜ meaning-slots r ≡ walked (now (mack .entry)) «tag_size» sender 1 (slots msg (rowOf maclt table)) ⌝ }
+    requires { ⌜ Walkable (now mack) «key_size_bytes» «tag_size_bits» maclt msg nt ⌝ }
+    ensures { λ r. ⌜ meaning-slots r ≡ walked (now (mack .entry)) «tag_size_bits» sender 1 (slots msg (rowOf maclt table)) ⌝ }
 {
     let mut n: u8 = 1;
     while n < nt {
-        match tag_fit(mack, key_size, tag_size, sender, maclt, msg, n as usize) {
+        match tag_fit(
+            mack,
+            key_size_bytes,
+            tag_size_bits,
+            sender,
+            maclt,
+            msg,
+            n as usize,
+        ) {
             SlotFit::Fits => {}
             SlotFit::Breaks(field) => {
                 return SlotsAnswer::Breaks { tag: n, field };

@@ -23,15 +23,15 @@ pub struct TimingTags {
 }
 
 // Tags 1 to nt-1 that hold ADKD 4.
-pub(crate) fn list(mack: &[u8], key_size: usize, tag_size: usize, nt: u8) -> TimingTags
-    requires { ⌜ Readable (now mack) «key_size» «tag_size» nt ⌝ }
-    ensures { λ r. ⌜ meaning-timing r ≡ tagsListed (now (mack .entry)) «key_size» «tag_size» ⌝ }
+pub(crate) fn list(mack: &[u8], key_size_bytes: usize, tag_size_bits: usize, nt: u8) -> TimingTags
+    requires { ⌜ Readable (now mack) «key_size_bytes» «tag_size_bits» nt ⌝ }
+    ensures { λ r. ⌜ meaning-timing r ≡ tagsListed (now (mack .entry)) «key_size_bytes» «tag_size_bits» ⌝ }
 {
     let mut tags = [0u8; 9];
     let mut count: u8 = 0;
     let mut n: u8 = 1;
     while n < nt {
-        if slots::adkd_at(mack, key_size, tag_size, n as usize) == 4 {
+        if slots::adkd_at(mack, key_size_bytes, tag_size_bits, n as usize) == 4 {
             tags[count as usize] = n;
             count += 1;
         }
@@ -54,14 +54,14 @@ fn refused(n: u8) -> TimingTags
 
 // The numbers of the tags that hold ADKD 4, whatever the table and the sender. Refuses 1 for a message of other than 60 bytes, then 7 for a size that no
 // KROOT gives.
-pub fn timing_tags(mack: &[u8], key_size: usize, tag_size: usize) -> TimingTags
-    ensures { λ r. ⌜ TimingTagsRead (now (mack .entry)) «key_size» «tag_size» r ⌝ }
+pub fn timing_tags(mack: &[u8], key_size_bytes: usize, tag_size_bits: usize) -> TimingTags
+    ensures { λ r. ⌜ TimingTagsRead (now (mack .entry)) «key_size_bytes» «tag_size_bits» r ⌝ }
 {
     if mack.len() != 60 {
         return refused(1);
     }
-    match mack::num_tags(key_size, tag_size) {
+    match mack::num_tags(key_size_bytes, tag_size_bits) {
         Number::Refused(n) => refused(n),
-        Number::Value(nt) => list(mack, key_size, tag_size, nt as u8),
+        Number::Value(nt) => list(mack, key_size_bytes, tag_size_bits, nt as u8),
     }
 }

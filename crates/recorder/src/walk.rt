@@ -39,10 +39,10 @@ fn refused(n: u8) -> Walked
 }
 
 // The refusal number of sizes and message number, 7, then of the ID, 8; 0 for none.
-fn table_refuses(key_size: usize, tag_size: usize, maclt: u8, msg: usize) -> u8
-    ensures { λ r. ⌜ r ≡ refusalOf (tableChecks «key_size» «tag_size» maclt msg) ⌝ }
+fn table_refuses(key_size_bytes: usize, tag_size_bits: usize, maclt: u8, msg: usize) -> u8
+    ensures { λ r. ⌜ r ≡ refusalOf (tableChecks «key_size_bytes» «tag_size_bits» maclt msg) ⌝ }
 {
-    match mack::num_tags(key_size, tag_size) {
+    match mack::num_tags(key_size_bytes, tag_size_bits) {
         Number::Refused(n) => {
             return n;
         }
@@ -58,8 +58,15 @@ fn table_refuses(key_size: usize, tag_size: usize, maclt: u8, msg: usize) -> u8
 }
 
 // The refusal number of what is walked; 0 for none.
-fn refuses(mack: &[u8], key_size: usize, tag_size: usize, sender: u8, maclt: u8, msg: usize) -> u8
-    ensures { λ r. ⌜ r ≡ refusalOf (walkChecks (now (mack .entry)) «key_size» «tag_size» sender maclt msg) ⌝ }
+fn refuses(
+    mack: &[u8],
+    key_size_bytes: usize,
+    tag_size_bits: usize,
+    sender: u8,
+    maclt: u8,
+    msg: usize,
+) -> u8
+    ensures { λ r. ⌜ r ≡ refusalOf (walkChecks (now (mack .entry)) «key_size_bytes» «tag_size_bits» sender maclt msg) ⌝ }
 {
     if mack.len() != 60 {
         return 1;
@@ -68,15 +75,15 @@ fn refuses(mack: &[u8], key_size: usize, tag_size: usize, sender: u8, maclt: u8,
     if refusal != 0 {
         return refusal;
     }
-    table_refuses(key_size, tag_size, maclt, msg)
+    table_refuses(key_size_bytes, tag_size_bits, maclt, msg)
 }
 
 // nt of a message, by its sizes.
-fn message_tags(key_size: usize, tag_size: usize) -> u8
-    requires { ⌜ refusalOf (sizeChecks «key_size» «tag_size») ≡ 0 ⌝ }
-    ensures { λ r. ⌜ r ≡ tagsIn «key_size» «tag_size» ⌝ }
+fn message_tags(key_size_bytes: usize, tag_size_bits: usize) -> u8
+    requires { ⌜ refusalOf (sizeChecks «key_size_bytes» «tag_size_bits») ≡ 0 ⌝ }
+    ensures { λ r. ⌜ r ≡ tagsIn «key_size_bytes» «tag_size_bits» ⌝ }
 {
-    match mack::num_tags(key_size, tag_size) {
+    match mack::num_tags(key_size_bytes, tag_size_bits) {
         Number::Refused(_) => 0,
         Number::Value(nt) => nt as u8,
     }
@@ -93,13 +100,20 @@ fn table_tags(maclt: u8) -> u8
 }
 
 // The verdict and the list, where nothing is refused.
-fn judge(mack: &[u8], key_size: usize, tag_size: usize, sender: u8, maclt: u8, msg: usize) -> Walked
-    requires { ⌜ refusalOf (walkChecks (now mack) «key_size» «tag_size» sender maclt msg) ≡ 0 ⌝ }
-    ensures { λ r. ⌜ meaning-walk r ≡ verdict (now (mack .entry)) «key_size» «tag_size» sender maclt msg ⌝ }
+fn judge(
+    mack: &[u8],
+    key_size_bytes: usize,
+    tag_size_bits: usize,
+    sender: u8,
+    maclt: u8,
+    msg: usize,
+) -> Walked
+    requires { ⌜ refusalOf (walkChecks (now mack) «key_size_bytes» «tag_size_bits» sender maclt msg) ≡ 0 ⌝ }
+    ensures { λ r. ⌜ meaning-walk r ≡ verdict (now (mack .entry)) «key_size_bytes» «tag_size_bits» sender maclt msg ⌝ }
 {
-    let message = message_tags(key_size, tag_size);
+    let message = message_tags(key_size_bytes, tag_size_bits);
     let table = table_tags(maclt);
-    let timing = timing::list(mack, key_size, tag_size, message);
+    let timing = timing::list(mack, key_size_bytes, tag_size_bits, message);
     if table != message {
         return Walked {
             slots: SlotsAnswer::TagsDiffer { table, message },
@@ -107,36 +121,45 @@ fn judge(mack: &[u8], key_size: usize, tag_size: usize, sender: u8, maclt: u8, m
         };
     }
     Walked {
-        slots: slots::walk_tags(mack, key_size, tag_size, sender, maclt, msg, message),
+        slots: slots::walk_tags(
+            mack,
+            key_size_bytes,
+            tag_size_bits,
+            sender,
+            maclt,
+            msg,
+            message,
+        ),
         timing,
     }
 }
 
-// The first tag that breaks its slot, or that all fit, or that table and message have not as many tags; and the tags that hold ADKD 4, whether or not the
-// slots fit. Refuses 1 for a message of other than 60 bytes, 2 for the sender, 7 for a size that no KROOT gives or a message number above 1, 8 for an ID that
-// no table has.
+// The first tag that breaks its slot, or that all fit, or that the table's nt and the message's differ; and the tags that hold ADKD 4, whether or not the slots
+// fit. `msg` is 0 in the first half of a minute and 1 in the second. Refuses 1 for a message of other than 60 bytes, 2 for the sender, 7 for a size that no
+// KROOT gives or a message number above 1, 8 for an ID that no table has.
 pub fn walk(
     mack: &[u8],
-    key_size: usize,
-    tag_size: usize,
+    key_size_bytes: usize,
+    tag_size_bits: usize,
     sender: u8,
     maclt: u8,
     msg: usize,
 ) -> Walked
-    ensures { λ r. ⌜ WalkSlots (now (mack .entry)) «key_size» «tag_size» sender maclt msg r ⌝ }
+    ensures { λ r. ⌜ WalkSlots (now (mack .entry)) «key_size_bytes» «tag_size_bits» sender maclt msg r ⌝ }
 {
-    let refusal = refuses(mack, key_size, tag_size, sender, maclt, msg);
+    let refusal = refuses(mack, key_size_bytes, tag_size_bits, sender, maclt, msg);
     if refusal != 0 {
         return refused(refusal);
     }
-    judge(mack, key_size, tag_size, sender, maclt, msg)
+    judge(mack, key_size_bytes, tag_size_bits, sender, maclt, msg)
 }
 
 // There is no message to judge: nothing, where sizes and ID are not refused.
-fn no_message(key_size: usize, tag_size: usize, maclt: u8, msg: usize) -> Walked
-    ensures { λ r. ⌜ meaning-walk r ≡ unjudged (answered (refusalOf (tableChecks «key_size» «tag_size» maclt msg)) nothing) ⌝ }
+fn no_message(key_size_bytes: usize, tag_size_bits: usize, maclt: u8, msg: usize) -> Walked
+    ensures { λ r. ⌜ meaning-walk r
+        ≡ unjudged (answered (refusalOf (tableChecks «key_size_bytes» «tag_size_bits» maclt msg)) nothing) ⌝ }
 {
-    let refusal = table_refuses(key_size, tag_size, maclt, msg);
+    let refusal = table_refuses(key_size_bytes, tag_size_bits, maclt, msg);
     if refusal != 0 {
         return refused(refusal);
     }
@@ -157,20 +180,32 @@ pub fn walk_complete<'a>(
     hkroot: &'a [u8],
     mack: &'a [u8],
     satellite: u8,
-    key_size: usize,
-    tag_size: usize,
+    key_size_bytes: usize,
+    tag_size_bits: usize,
     maclt: u8,
 ) -> Walked
-    ensures { λ r. ⌜ WalkComplete collector (now (hkroot .entry)) (now (mack .entry)) satellite «key_size» «tag_size» maclt r ⌝ }
+    ensures { λ r. ⌜ WalkComplete collector (now (hkroot .entry)) (now (mack .entry)) satellite «key_size_bytes» «tag_size_bits» maclt r ⌝ }
 {
     let msg = (collector.subframe % 2) as usize;
     match subframe::came_out(collector, hkroot, mack, satellite) {
         SubframeAnswer::Refused(n) => refused(n),
-        SubframeAnswer::Nothing => no_message(key_size, tag_size, maclt, msg),
-        SubframeAnswer::Silent { week: _, time: _ } => no_message(key_size, tag_size, maclt, msg),
+        SubframeAnswer::Nothing => no_message(key_size_bytes, tag_size_bits, maclt, msg),
+        SubframeAnswer::Silent { week: _, time: _ } => no_message(
+            key_size_bytes,
+            tag_size_bits,
+            maclt,
+            msg,
+        ),
         SubframeAnswer::Complete { week: _, time: _ } => {
             let message = subframe::view(collector, hkroot, mack, Message::Mack, satellite);
-            walk(message, key_size, tag_size, satellite, maclt, msg)
+            walk(
+                message,
+                key_size_bytes,
+                tag_size_bits,
+                satellite,
+                maclt,
+                msg,
+            )
         }
     }
 }

@@ -1,4 +1,4 @@
-// Holds `layouts` to the recorded answers of the Rust, in the file answers.bin, and to published values, set into messages of our
+// Holds `layouts` and `recorder` to the recorded answers of the Rust, in the file answers.bin, and to published values, set into messages of our
 // own making, and the collectors and the store to its recorded sequences of calls, in the file sequences.bin.
 mod checksum;
 mod found;
@@ -7,11 +7,13 @@ mod published;
 mod published_kroot;
 mod published_mack;
 mod published_pkr;
+mod published_slots;
 mod recorded;
 mod recorded_headers;
 mod recorded_kroot;
 mod recorded_mack;
 mod recorded_pkr;
+mod recorded_slots;
 mod recorded_table;
 mod records;
 mod sequence_calls;

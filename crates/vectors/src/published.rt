@@ -5,6 +5,7 @@ use crate::print;
 use crate::published_kroot;
 use crate::published_mack;
 use crate::published_pkr;
+use crate::published_slots;
 use crate::tally;
 use crate::tally::Tally;
 use layouts::answer::Number;
@@ -31,5 +32,6 @@ pub(crate) fn bytes(name: &[u8], answer: &[u8], text: &[u8], t: Tally) -> Tally 
 pub(crate) fn all() -> Tally {
     let t = published_pkr::checks(tally::none());
     let t = published_kroot::checks(t);
-    published_mack::checks(t)
+    let t = published_mack::checks(t);
+    published_slots::checks(t)
 }

@@ -8,7 +8,7 @@ use texts::hexadecimal;
 
 // Tag 0, and behind MACSEQ, which is not published, COP 15. The later tag as tag 3, a place that is not published, with
 // PRND 2, ADKD 4 and COP 15. The other tags and the key are zeros.
-fn build(msg: &mut [u8]) {
+pub(crate) fn build(msg: &mut [u8]) {
     hexadecimal::read(msg, 0, b"E37BC4F858000F");
     hexadecimal::read(msg, 21, b"7BB238C883024F");
 }

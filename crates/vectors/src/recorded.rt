@@ -6,6 +6,7 @@ use crate::recorded_headers;
 use crate::recorded_kroot;
 use crate::recorded_mack;
 use crate::recorded_pkr;
+use crate::recorded_slots;
 use crate::recorded_table;
 use crate::records;
 use crate::records::Next;
@@ -32,10 +33,10 @@ fn bytes_of(bits: u64) -> u64 {
 }
 
 // The Rust counts a key's size in bits, `layouts` in bytes. Here, and nowhere else, a record's becomes bytes: the size that functions
-// 50 to 59 take, and the one that function 15 gives.
+// 50 to 59, 100 and 101 take, and the one that function 15 gives.
 fn in_bytes(r: Record) -> Record {
     let f = r.function;
-    if 50 <= f && f <= 59 {
+    if 50 <= f && f <= 59 || 100 <= f && f <= 101 {
         let a = bytes_of(r.a as u64) as usize;
         return Record { a, ..r };
     }
@@ -46,7 +47,7 @@ fn in_bytes(r: Record) -> Record {
     r
 }
 
-// What `layouts` answers to a record's call. `expected` is the recorded output.
+// What `layouts` and `recorder` answer to a record's call. `expected` is the recorded output.
 fn answer(r: Record, msg: &[u8], expected: &[u8]) -> Found {
     let f = r.function;
     if f == 59 {
@@ -54,6 +55,9 @@ fn answer(r: Record, msg: &[u8], expected: &[u8]) -> Found {
     }
     if f == 71 {
         return recorded_table::flx_indices(r.a, r.b, expected);
+    }
+    if f == 101 {
+        return recorded_slots::timing_tags(msg, r.a, r.b, expected);
     }
     if 0 < expected.len() {
         return found::nothing();
@@ -75,6 +79,9 @@ fn answer(r: Record, msg: &[u8], expected: &[u8]) -> Found {
     }
     if f == 80 {
         return found::number(bits::read_bits(msg, r.a, r.b));
+    }
+    if f == 100 {
+        return recorded_slots::slot(msg, r.a, r.b, r.c);
     }
     found::nothing()
 }
@@ -130,6 +137,9 @@ fn turn(fd: i32, number: u64, t: Tally) -> Replayed {
             Replayed { more: false, tally }
         }
         Next::Whole(r) => {
+            if r.function == 100 {
+                recorded_slots::exchange(view, r.b);
+            }
             let tally = judged(in_bytes(r), view, number, t);
             Replayed { more: true, tally }
         }

@@ -1,12 +1,17 @@
 //! The list of recorded answers. A record, little endian: fn u8, mlen u8, olen u8, refusal u8,
 //! a u32, b u32, c u32, v0 u64, v1 u64, v2 u64, then mlen bytes of message and olen bytes of output.
 //! A refused record has no values and no output. A key's size is in bits, as the Rust has it.
-use crate::call::{Answer, Call, Function, Good, MOST_ROOM};
+use crate::call::{Answer, Call, Good, MOST_ROOM};
 
 const HEAD: usize = 40;
 
+/// The numbers of what is recorded beside the functions of the C boundary: `Chain::validate_adkd` of one tag, and the tags whose
+/// `adkd` is that of the timing parameters. The recorded sequences have 89 to 93.
+pub const VALIDATE_ADKD: u8 = 100;
+pub const TIMING_TAGS: u8 = 101;
+
 pub struct Record {
-    pub function: Function,
+    pub number: u8,
     pub message: Vec<u8>,
     pub args: [u32; 3],
     pub answer: Answer,
@@ -34,13 +39,13 @@ impl Record {
     pub fn new(call: &Call, answer: Answer) -> Option<Record> {
         let [a, b, c] = call.args.map(|x| u32::try_from(x).ok());
         u8::try_from(call.message.len()).ok()?;
-        Some(Record { function: call.function, message: call.message.to_vec(), args: [a?, b?, c?], answer })
+        Some(Record { number: call.function.number(), message: call.message.to_vec(), args: [a?, b?, c?], answer })
     }
 
     pub fn write(&self, out: &mut Vec<u8>) {
         let good = self.answer.unwrap_or_default();
         let answer = self.answer.map(|good| good.values).map_err(|number| number as u8);
-        write(out, self.function.number(), &self.message, self.args, answer, &good.output[..good.many]);
+        write(out, self.number, &self.message, self.args, answer, &good.output[..good.many]);
     }
 
     /// The first record of the bytes, and the bytes behind it.
@@ -56,7 +61,7 @@ impl Record {
         let values = [16, 24, 32].map(|i| u64::from_le_bytes(head[i..i + 8].try_into().unwrap()));
         let good = Good { values, ..Good::default() }.with_output(output);
         let answer = if head[3] == 0 { Ok(good) } else { Err(head[3].into()) };
-        let function = Function::of_number(head[0])?;
-        Some((Record { function, message: message.to_vec(), args, answer }, &bytes[HEAD + mlen + olen..]))
+        let record = Record { number: head[0], message: message.to_vec(), args, answer };
+        Some((record, &bytes[HEAD + mlen + olen..]))
     }
 }

@@ -1,5 +1,6 @@
 //! What the programs of this package share: the functions of the C boundary, the published Rust and
-//! document 01 behind one kind of call, the inputs, the list of recorded answers, and the unit of a key's size.
+//! document 01 behind one kind of call, the inputs, messages that fit the look-up table's slots, the list of recorded answers,
+//! and the unit of a key's size.
 pub mod answers;
 pub mod call;
 pub mod fields;
@@ -7,4 +8,5 @@ pub mod inputs;
 pub mod model;
 pub mod published;
 pub mod sequence;
+pub mod slots;
 pub mod units;

@@ -1,18 +1,24 @@
 //! record FILE: writes the list of recorded answers, a key's size in bits. Each answer is what the published Rust did; only
 //! the number of a refusal is document 01's, where the Rust panics. The same list at each run.
-use differential::answers::Record;
+use differential::answers::{Record, TIMING_TAGS, VALIDATE_ADKD, write};
 use differential::call::{Call, Function as F, Takes};
 use differential::inputs::{Random, key_bytes, kroot_lengths, set, sizes};
 use differential::model::{self, TABLE};
 use differential::published::{self, Said};
+use differential::slots::{CONSTELLATION, chain, fitted, put_adkd, put_prnd, sizes_of, slots_of};
 use differential::units::{bits as in_bits, call_in_bits};
+use oracle::bitfields::{Adkd, Mack};
+use oracle::maclt::MacLTError;
+use oracle::tesla::AdkdCheckError;
+use oracle::{Gst, Svn};
 use std::collections::HashSet;
 use std::process::exit;
 
 struct List {
     random: Random,
     seen: HashSet<Vec<u8>>,
-    records: Vec<(F, Vec<u8>)>,
+    /// By their function's number.
+    records: Vec<(u8, Vec<u8>)>,
 }
 
 impl List {
@@ -31,8 +37,12 @@ impl List {
             Record::new(&call_in_bits(&call), answer).unwrap_or_else(|| fail(&format!("{call}: fits no record")));
         let mut bytes = Vec::new();
         record.write(&mut bytes);
+        self.push(function.number(), bytes);
+    }
+
+    fn push(&mut self, number: u8, bytes: Vec<u8>) {
         if self.seen.insert(bytes.clone()) {
-            self.records.push((function, bytes));
+            self.records.push((number, bytes));
         }
     }
 
@@ -61,18 +71,16 @@ fn main() {
     mack(&mut list);
     table(&mut list);
     bits(&mut list);
-    list.records.sort_by_key(|(function, _)| function.number());
+    slots(&mut list);
+    timing(&mut list);
+    list.records.sort_by_key(|(number, _)| *number);
     let bytes: Vec<u8> = list.records.iter().flat_map(|(_, bytes)| bytes.clone()).collect();
     std::fs::write(&path, &bytes).unwrap_or_else(|e| fail(&format!("{path}: {e}")));
-    for function in F::ALL {
-        let records = list.records.iter().filter(|(f, _)| f == function);
+    let functions = F::ALL.iter().map(|function| (function.number(), function.name()));
+    for (number, name) in functions.chain([(VALIDATE_ADKD, "validate_adkd"), (TIMING_TAGS, "timing_tags")]) {
+        let records = list.records.iter().filter(|(of, _)| *of == number);
         let refused = records.clone().filter(|(_, bytes)| bytes[3] != 0).count();
-        println!(
-            "{:>3} {:<28}{:>6} records, {refused:>4} refused",
-            function.number(),
-            function.name(),
-            records.count()
-        );
+        println!("{number:>3} {name:<28}{:>6} records, {refused:>4} refused", records.count());
     }
     println!("{} records, {} bytes", list.records.len(), bytes.len());
 }
@@ -323,5 +331,91 @@ fn bits(list: &mut List) {
         for width in [1, 8, 63, 64] {
             list.add(F::read_bits, &message, [start, width, 0]);
         }
+    }
+}
+
+/// A tag that the Rust is asked about: the sender, the table ID and the message's number stand before the MACK message.
+struct Tag {
+    sizes: (u64, u64),
+    sender: u8,
+    maclt: u8,
+    msg: u8,
+    n: u64,
+}
+
+impl List {
+    fn slot(&mut self, tag: &Tag, mack: &[u8]) {
+        let Tag { sizes, sender, maclt, msg, n } = *tag;
+        let read = Mack::new(mack.try_into().unwrap(), in_bits(sizes.0) as usize, sizes.1 as usize);
+        let (svn, gst) = (Svn::try_from(sender).unwrap(), Gst::new(0, 30 * u32::from(msg)));
+        let answer = match chain(maclt, sizes).validate_adkd(n as usize, read.tag_and_info(n as usize), svn, gst) {
+            Ok(()) => Ok([0; 3]),
+            Err(AdkdCheckError::WrongAdkd) => Ok([1, 0, 0]),
+            Err(AdkdCheckError::WrongPrnd) => Ok([2, 0, 0]),
+            Err(AdkdCheckError::MacLTError(MacLTError::InvalidMaclt)) => Err(8),
+            Err(error) => fail(&format!("tag {n} of ID {maclt}: {error:?}")),
+        };
+        let message = [&[sender, maclt, msg], mack].concat();
+        let mut bytes = Vec::new();
+        write(&mut bytes, VALIDATE_ADKD, &message, [in_bits(sizes.0), sizes.1, n].map(|x| x as u32), answer, &[]);
+        self.push(VALIDATE_ADKD, bytes);
+    }
+
+    /// The tag with that PRND and ADKD, where they are given.
+    fn altered(&mut self, tag: &Tag, mack: &[u8], prnd: Option<u8>, adkd: Option<u8>) {
+        let (mut mack, tag_size, n) = (mack.to_vec(), tag.sizes.1 as usize, tag.n as usize);
+        prnd.into_iter().for_each(|prnd| put_prnd(&mut mack, tag_size, n, prnd));
+        adkd.into_iter().for_each(|adkd| put_adkd(&mut mack, tag_size, n, adkd));
+        self.slot(tag, &mack);
+    }
+}
+
+/// Every slot, in messages whose other tags fit as the Rust has it: the tag fits too, its ADKD is another one, its PRND is none
+/// of a satellite, its PRND is another satellite's, the sender's or 255. The pairs of sizes in turn. IDs of no table.
+fn slots(list: &mut List) {
+    let mut turn = 0;
+    for (id, nt, ..) in TABLE {
+        let (maclt, pairs) = (id as u8, sizes_of(nt));
+        for (msg, n) in [0, 1].into_iter().flat_map(|msg| (1..nt).map(move |n| (msg, n))) {
+            turn += 1;
+            let sender = 1 + list.random.below(36) as u8;
+            let tag = Tag { sizes: pairs[turn % pairs.len()], sender, maclt, msg, n };
+            let slots = slots_of(maclt, msg.into());
+            let mack = fitted(&mut list.random, tag.sizes, sender, sender, &slots);
+            let adkd = Some(list.random.pick(&[1, 2, 4, 8, 12, 15]));
+            let prnd = Some([0, 37, 128, 254][turn % 4]);
+            list.slot(&tag, &mack);
+            list.altered(&tag, &mack, None, adkd);
+            list.altered(&tag, &mack, prnd, None);
+            match slots[n as usize - 1] {
+                "04S" => [CONSTELLATION, 1 + sender % 36].map(|prnd| list.altered(&tag, &mack, Some(prnd), None)),
+                _ => [sender, CONSTELLATION].map(|prnd| list.altered(&tag, &mack, Some(prnd), None)),
+            };
+        }
+    }
+    for maclt in [0, 1, 26, 29, 30, 32, 42, 128, 254, 255] {
+        let mack = list.random_message(60);
+        list.slot(&Tag { sizes: (16, 40), sender: 2, maclt, msg: maclt % 2, n: 1 }, &mack);
+    }
+}
+
+/// Every pair of sizes: the tags of a message that hold ADKD 4, ascending, nine bytes with zeros behind. Of the sizes with most tags
+/// all do.
+fn timing(list: &mut List) {
+    for (key, tag) in sizes() {
+        let mut mack = list.random_message(60);
+        for n in 0..model::num_tags(key, tag).unwrap() as usize {
+            let any = list.random.pick(&[0, 4, 4, 12, 5]);
+            let adkd = if (key, tag) == (12, 20) { 4 } else { any };
+            put_adkd(&mut mack, tag as usize, n, adkd);
+        }
+        let read = Mack::new(mack[..].try_into().unwrap(), in_bits(key) as usize, tag as usize);
+        let tags = (1..read.num_tags()).filter(|n| read.tag_and_info(*n).adkd() == Adkd::InavTiming);
+        let mut numbers: Vec<u8> = tags.map(|n| n as u8).collect();
+        let count = numbers.len() as u64;
+        numbers.resize(9, 0);
+        let mut bytes = Vec::new();
+        write(&mut bytes, TIMING_TAGS, &mack, [in_bits(key), tag, 0].map(|x| x as u32), Ok([count, 0, 0]), &numbers);
+        list.push(TIMING_TAGS, bytes);
     }
 }

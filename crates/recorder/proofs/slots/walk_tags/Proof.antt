@@ -9,15 +9,15 @@ use Rattle.recorder.proofs.slots.walk_tags.Statement.{statement}
 use Rattle.recorder.proofs.slots.walk_tags.Tie as tie
 
 abbrev Inv-loop : tie.InvT-loop
-Inv-loop mack key-size tag-size sender maclt msg nt n₀ n = (1 ≤ n) × (n ≤ nt) × Left mack tag-size sender maclt msg n
+Inv-loop mack key-size-bytes tag-size-bits sender maclt msg nt n₀ n = (1 ≤ n) × (n ≤ nt) × Left mack tag-size-bits sender maclt msg n
 
 abbrev μ-loop : tie.MeasureT-loop
-μ-loop mack key-size tag-size sender maclt msg nt n₀ n = nt - n
+μ-loop mack key-size-bytes tag-size-bits sender maclt msg nt n₀ n = nt - n
 
 loop-holds : tie.Need-loop-holds Inv-loop μ-loop
 loop-holds c =
     let b = c .before in
-    let few = tags-known (b .args .mack .now) (b .args .key-size) (b .args .tag-size) (b .pre .0) in
+    let few = tags-known (b .args .mack .now) (b .args .key-size-bytes) (b .args .tag-size-bits) (b .pre .0) in
     (omega arith, omega (arith, few .0), refl)
 
 cast-tag-fit : tie.Need-cast-tag-fit Inv-loop μ-loop
@@ -27,7 +27,7 @@ tag-fit-requires : tie.Need-tag-fit-requires Inv-loop μ-loop
 tag-fit-requires c κs =
     let b = c .before .before .before in
     let h = c .before .loop in (
-      tag-readable (b .args .mack .now) (b .args .key-size) (b .args .tag-size) (b .pre .0) (h .n) (h .inv .0) (c .loop-test .taken),
+      tag-readable (b .args .mack .now) (b .args .key-size-bytes) (b .args .tag-size-bits) (b .pre .0) (h .n) (h .inv .0) (c .loop-test .taken),
       slot-known (b .args .maclt) (b .args .msg) (b .pre .1) (b .pre .2) (h .n) (h .inv .0) (c .loop-test .taken),
     )
 
@@ -53,7 +53,7 @@ returns-2 : tie.Need-returns-2 Inv-loop μ-loop
 returns-2 c =
     let b = c .before .before .before in
     let h = c .before .loop in
-    all-walked (b .args .mack .now) (b .args .tag-size) (b .args .sender) (b .args .maclt) (b .args .msg) (h .n) (b .pre .2) (h .inv .0)
+    all-walked (b .args .mack .now) (b .args .tag-size-bits) (b .args .sender) (b .args .maclt) (b .args .msg) (h .n) (b .pre .2) (h .inv .0)
     (omega (arith, h .inv .1, c .loop-test .left)) (h .inv .2)
 
 pub walk-tags-spec : {M : Type 1} → statement M

@@ -10,17 +10,17 @@ use Rattle.recorder.proofs.timing.list.Statement.{statement}
 use Rattle.recorder.proofs.timing.list.Tie as tie
 
 abbrev Inv-loop : tie.InvT-loop
-Inv-loop mack key-size tag-size nt tags₀ count₀ n₀ tags count n = (n ≤ nt) × Sofar mack tag-size n count tags
+Inv-loop mack key-size-bytes tag-size-bits nt tags₀ count₀ n₀ tags count n = (n ≤ nt) × Sofar mack tag-size-bits n count tags
 
 abbrev μ-loop : tie.MeasureT-loop
-μ-loop mack key-size tag-size nt tags₀ count₀ n₀ tags count n = nt - n
+μ-loop mack key-size-bytes tag-size-bits nt tags₀ count₀ n₀ tags count n = nt - n
 
 -- four to ten tags
 tags : (c : tie.After-shared-slice-known Inv-loop μ-loop) → (4 ≤ c .before .args .nt) × (c .before .args .nt ≤ 10)
-tags c = let b = c .before in tags-known (b .args .mack .now) (b .args .key-size) (b .args .tag-size) (b .pre)
+tags c = let b = c .before in tags-known (b .args .mack .now) (b .args .key-size-bytes) (b .args .tag-size-bits) (b .pre)
 
 loop-holds : tie.Need-loop-holds Inv-loop μ-loop
-loop-holds c = (omega (arith, tags c .0), none-yet (c .before .args .mack .now) (c .before .args .tag-size))
+loop-holds c = (omega (arith, tags c .0), none-yet (c .before .args .mack .now) (c .before .args .tag-size-bits))
 
 cast-adkd-at : tie.Need-cast-adkd-at Inv-loop μ-loop
 cast-adkd-at c = search needs
@@ -29,7 +29,7 @@ adkd-at-requires : tie.Need-adkd-at-requires Inv-loop μ-loop
 adkd-at-requires c κs =
     let b = c .before .before .before in
     let h = c .before .loop in
-    tag-readable (b .args .mack .now) (b .args .key-size) (b .args .tag-size) (b .pre) (h .n) (h .inv .1 .some) (c .loop-test .taken)
+    tag-readable (b .args .mack .now) (b .args .key-size-bytes) (b .args .tag-size-bits) (b .pre) (h .n) (h .inv .1 .some) (c .loop-test .taken)
 
 -- a tag in the loop has room in the list
 room : (c : tie.Then1 Inv-loop μ-loop) → c .before .before .before .loop .count < 9
@@ -66,7 +66,7 @@ returns : tie.Need-returns Inv-loop μ-loop
 returns c =
     let b = c .before .before .before in
     let h = c .before .loop in
-    all-listed (h .inv .1) (b .args .key-size) (b .pre .1) (omega (arith, h .inv .0, c .loop-test .left))
+    all-listed (h .inv .1) (b .args .key-size-bytes) (b .pre .1) (omega (arith, h .inv .0, c .loop-test .left))
 
 pub list-spec : {M : Type 1} → statement M
 list-spec =

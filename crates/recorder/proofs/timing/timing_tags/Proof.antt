@@ -28,7 +28,7 @@ cast-list : tie.Need-cast-list
 cast-list c =
     let b = c .before .before .before .before .before .before .args in
     let x = c .before .before .before in
-    omega (arith, nt-given (b .key-size) (b .tag-size) (x .num-tags .ensures) (c .before .nt .given .1) .1)
+    omega (arith, nt-given (b .key-size-bytes) (b .tag-size-bits) (x .num-tags .ensures) (c .before .nt .given .1) .1)
 
 list-requires : tie.Need-list-requires
 list-requires c κs = search mack-passes

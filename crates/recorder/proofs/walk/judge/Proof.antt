@@ -7,8 +7,8 @@ use Rattle.recorder.proofs.walk.judge.Statement.{statement}
 use Rattle.recorder.proofs.walk.judge.Tie as tie
 
 -- nothing is refused
-passes : (c : tie.Start) → let a = c .args in Known (a .mack .now) (a .key-size) (a .tag-size) (a .sender) (a .maclt) (a .msg)
-passes c = let a = c .args in known (a .mack .now) (a .key-size) (a .tag-size) (a .sender) (a .maclt) (a .msg) (c .pre)
+passes : (c : tie.Start) → let a = c .args in Known (a .mack .now) (a .key-size-bytes) (a .tag-size-bits) (a .sender) (a .maclt) (a .msg)
+passes c = let a = c .args in known (a .mack .now) (a .key-size-bytes) (a .tag-size-bits) (a .sender) (a .maclt) (a .msg) (c .pre)
 
 message-tags-requires : tie.Need-message-tags-requires
 message-tags-requires c κs = passes (c .before) .sizes

@@ -19,7 +19,7 @@ enum-known-nt c = search needs
 cast-result : tie.Need-cast-result
 cast-result c =
     let b = c .before .before .before .before .args in
-    omega (arith, nt-given (b .key-size) (b .tag-size) (c .before .before .before .num-tags .ensures) (c .before .nt .given .1) .1)
+    omega (arith, nt-given (b .key-size-bytes) (b .tag-size-bits) (c .before .before .before .num-tags .ensures) (c .before .nt .given .1) .1)
 
 returns : tie.Need-returns
 returns c = search value-none
