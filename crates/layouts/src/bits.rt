@@ -11,7 +11,7 @@ use crate::answer::{Number, Part};
 use crate::numbers::wide;
 
 // A row of a layout: a field's first bit and its width in bits.
-#[derive(Drop)]
+#[derive(Clone, Copy)]
 pub struct Field {
     pub first: usize,
     pub width: usize,

@@ -79,39 +79,39 @@ pub const ALPHA: Field = Field {
 // The byte that the key starts at; the signature follows it, and the padding follows the signature.
 pub const KROOT_BYTE: usize = 13;
 
-#[derive(Drop)]
+#[derive(Clone, Copy)]
 pub enum HashFunction {
     Sha256,
     Sha3_256,
     Reserved,
 }
 
-#[derive(Drop)]
+#[derive(Clone, Copy)]
 pub enum HashFunctionAnswer {
     Function(HashFunction),
     Refused(u8),
 }
 
-#[derive(Drop)]
+#[derive(Clone, Copy)]
 pub enum MacFunction {
     HmacSha256,
     CmacAes,
     Reserved,
 }
 
-#[derive(Drop)]
+#[derive(Clone, Copy)]
 pub enum MacFunctionAnswer {
     Function(MacFunction),
     Refused(u8),
 }
 
-#[derive(Drop)]
+#[derive(Clone, Copy)]
 pub enum EcdsaFunction {
     P256Sha256,
     P521Sha512,
 }
 
-#[derive(Drop)]
+#[derive(Clone, Copy)]
 pub enum EcdsaFunctionAnswer {
     Function(EcdsaFunction),
     Refused(u8),

@@ -50,21 +50,21 @@ pub const NPKID: Field = Field {
 // The byte that the key starts at; the padding follows it.
 pub const NPK_BYTE: usize = 130;
 
-#[derive(Drop)]
+#[derive(Clone, Copy)]
 pub enum NewPublicKeyType {
     EcdsaKey(EcdsaFunction),
     OsnmaAlertMessage,
     Reserved,
 }
 
-#[derive(Drop)]
+#[derive(Clone, Copy)]
 pub enum NewPublicKeyTypeAnswer {
     KeyType(NewPublicKeyType),
     Refused(u8),
 }
 
 // A tree node beside its answer; zeros where it is refused.
-#[derive(Drop)]
+#[derive(Clone, Copy)]
 pub struct TreeNode {
     pub answer: Part,
     pub bytes: [u8; 32],

@@ -20,14 +20,14 @@ pub const OSNMA: Field = Field {
     width: 40,
 };
 
-#[derive(Drop)]
+#[derive(Clone, Copy)]
 pub enum PageKind {
     Counts,
     Skipped,
     Refused(u8),
 }
 
-#[derive(Drop)]
+#[derive(Clone, Copy)]
 pub struct OsnmaField {
     pub answer: Copy,
     pub bytes: [u8; 5],

@@ -1,4 +1,6 @@
 // The layouts of OSNMA's messages: bits, headers, DSM-KROOT, DSM-PKR, MACK and the MAC look-up table. Nothing here has a state.
+#![tactic(auto)]
+
 pub mod answer;
 pub mod bits;
 pub mod dsm_header;

@@ -9,26 +9,26 @@ use crate::answer::Number;
 use crate::tag_info::Adkd;
 
 // S and E of the table.
-#[derive(Drop)]
+#[derive(Clone, Copy)]
 pub enum AuthObject {
     SelfAuth,
     CrossAuth,
 }
 
-#[derive(Drop)]
+#[derive(Clone, Copy)]
 pub enum MacLTSlot {
     Fixed { adkd: Adkd, object: AuthObject },
     Flex,
 }
 
-#[derive(Drop)]
+#[derive(Clone, Copy)]
 pub enum MacLTSlotAnswer {
     Slot(MacLTSlot),
     Refused(u8),
 }
 
 // How many tags are FLX, or the refusal, beside their numbers: ascending, zeros behind.
-#[derive(Drop)]
+#[derive(Clone, Copy)]
 pub struct FlxIndices {
     pub count: Number,
     pub indices: [u8; 4],

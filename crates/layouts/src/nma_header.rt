@@ -10,7 +10,7 @@ pub const CID: Field = Field { first: 2, width: 2 };
 
 pub const CPKS: Field = Field { first: 4, width: 3 };
 
-#[derive(Drop)]
+#[derive(Clone, Copy)]
 pub enum NmaStatus {
     Reserved,
     Test,
@@ -18,7 +18,7 @@ pub enum NmaStatus {
     DontUse,
 }
 
-#[derive(Drop)]
+#[derive(Clone, Copy)]
 pub enum ChainAndPubkeyStatus {
     Reserved,
     Nominal,

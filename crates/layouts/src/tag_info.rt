@@ -1,21 +1,21 @@
 // The names of the numbers in a tag's info, which the look-up table has too.
 
 // PRND: whose data the tag authenticates.
-#[derive(Drop)]
+#[derive(Clone, Copy)]
 pub enum Prnd {
     GalileoSvid(u8),
     GalileoConstellation,
     Reserved,
 }
 
-#[derive(Drop)]
+#[derive(Clone, Copy)]
 pub enum PrndAnswer {
     Name(Prnd),
     Refused(u8),
 }
 
 // ADKD: which data the tag authenticates.
-#[derive(Drop)]
+#[derive(Clone, Copy)]
 pub enum Adkd {
     InavCed,
     InavTiming,
@@ -23,7 +23,7 @@ pub enum Adkd {
     Reserved,
 }
 
-#[derive(Drop)]
+#[derive(Clone, Copy)]
 pub enum AdkdAnswer {
     Name(Adkd),
     Refused(u8),

@@ -1,0 +1,20 @@
+-- `mack::tag_at`: what is not refused has room.
+-- Assumes nothing.
+use native.Mathlib.Omega.{arith}
+use Rattle.layouts.proofs.Answers.{refused_with, given_with, by_value}
+use Rattle.layouts.proofs.mack.tag_at.Goals as goal
+
+pub returns-then-refusal-ne0 : goal.returns-then-refusal-ne0
+returns-then-refusal-ne0 c = search refused_with
+
+pub overflow_add-tag_size_bits : goal.overflow_add-tag_size_bits
+overflow_add-tag_size_bits c = let r = c.requires c.if-refusal-ne0.false in omega arith
+
+pub overflow_mul-n : goal.overflow_mul-n
+overflow_mul-n c = let r = c.requires c.if-refusal-ne0.false in omega arith
+
+pub long-requires : goal.long-requires
+long-requires c = let r = c.requires c.if-refusal-ne0.false in (omega arith, omega arith)
+
+pub returns : goal.returns
+returns c = search (given_with, by_value)
