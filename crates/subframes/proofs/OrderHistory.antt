@@ -65,7 +65,7 @@ record Fed-by (s t : State) (ps : List Page) (l : List Answer) : Type 0 where
   state_is : t ≡ after s ps
   answers_are : l ≡ answers s ps
 
-calls_feed : {c d : CollectSubframe} {h m x y : List ℕ} {ps : List Page} {l : List Answer} → Calls c h m ps l d x y → Fed-by (state c h m) (state d x y) ps l
+calls_feed : {c : CollectSubframe} {h m : List ℕ} {d : CollectSubframe} {x y : List ℕ} {ps : List Page} {l : List Answer} → Calls c h m ps l d x y → Fed-by (state c h m) (state d x y) ps l
 calls_feed begins = record { state_is = refl; answers_are = refl }
 calls_feed {c} {h = h} {m = m} (called {d = d} {x = x} {y = y} {ps = ps} {qs = qs} {l = l} {a = a} k k') =
     let s = state c h m in
@@ -159,20 +159,21 @@ walked_through {c} {d} {h} {m} {x} {y} {ps} {l} trace whole k w =
     record { state_is = v.state_is ∙ ap (after (state c h m)) all; answers_are = v.done_is ∙ ap (answers (state c h m)) all }
 
 -- A history and calls after it.
-goes_on_lem :
-    {c d : CollectSubframe} {h m x y : List ℕ} {ps qs : List Page} {l : List Answer} → History c h m ps → Calls c h m qs l d x y → History d x y (ps ++ qs)
-goes_on_lem {c} {h = h} {m = m} {ps = ps} j begins = subst⁻¹ (λ (l : List Page). History c h m l) (append-nil ps) j
-goes_on_lem {ps = ps} j (called {d' = d'} {x' = x'} {y' = y'} {ps = rs} {qs = qs} k k') =
-    subst (λ (l : List Page). History d' x' y' l) (append_assoc ps rs qs) (and_called (goes_on_lem j k) k')
-goes_on_lem j (misfit x y k w k') = and_misfit x y (goes_on_lem j k) w k'
-goes_on_lem j (looked k k') = and_looked (goes_on_lem j k) k'
+goes_on :
+    {c : CollectSubframe} {h m : List ℕ} {ps : List Page} {d : CollectSubframe} {x y : List ℕ} {qs : List Page} {l : List Answer} → History c h m ps → Calls c h m qs l d x y → History d x y (ps ++ qs)
+goes_on {c} {h = h} {m = m} {ps = ps} j begins = subst⁻¹ (λ (l : List Page). History c h m l) (append-nil ps) j
+goes_on {ps = ps} j (called {d' = d'} {x' = x'} {y' = y'} {ps = rs} {qs = qs} k k') =
+    subst (λ (l : List Page). History d' x' y' l) (append_assoc ps rs qs) (and_called (goes_on j k) k')
+goes_on j (misfit x y k w k') = and_misfit x y (goes_on j k) w k'
+goes_on j (looked k k') = and_looked (goes_on j k) k'
 
 any_more :
-    {c d : CollectSubframe} {h m x y : List ℕ} {qs : List Page} {l : List Answer} → Calls c h m qs l d x y → (ps : List Page)
+    {c : CollectSubframe} {h m : List ℕ} {d : CollectSubframe} {x y : List ℕ} {qs : List Page} {l : List Answer} → Calls c h m qs l d x y → (ps : List Page)
     → (l' : List Answer) × (d' : CollectSubframe) × (x' : List ℕ) × (y' : List ℕ) × Calls c h m (qs ++ ps) l' d' x' y'
-any_more {c} {d} {h} {m} {x} {y} {qs} {l} k [] = (l, d, x, y, subst⁻¹ (λ (z : List Page). Calls c h m z l d x y) (append-nil qs) k)
-any_more {c} {d} {h} {m} {x} {y} {qs} {l} k (p ∷ ps) =
-    let w = any_more (called k (any_call d x y p)) ps in
+any_more {c} {h} {m} {d} {x} {y} {qs} {l} k [] = (l, d, x, y, subst⁻¹ (λ (z : List Page). Calls c h m z l d x y) (append-nil qs) k)
+any_more {c} {h} {m} {d} {x} {y} {qs} {l} k (p ∷ ps) =
+    let f = feed (state d x y) p in
+    let w = any_more {d = back_state f.state} {x = f.state.hkroot} {y = f.state.mack} {qs = qs ++ (p ∷ [])} (called k (any_call d x y p)) ps in
     (w.0, w.1, w.2, w.3, subst (λ (z : List Page). Calls c h m z w.0 w.1 w.2 w.3) (append_assoc qs (p ∷ []) ps) w.4)
 
 pub code_order : CodeOrder
@@ -183,6 +184,6 @@ code_order =
       merges = λ {c} {hkroot = h} {mack = m} r k k'. ended (two_ways (state c h m) r) (calls_feed k) (calls_feed k');
       traces = λ {c} {hkroot = h} {mack = m} trace other whole whole' r j w w'.
           ended (two_ways (state c h m) r) (walked_through trace whole j w) (walked_through other whole' j w');
-      goes_on_lem = goes_on_lem;
+      goes_on = λ j k. goes_on j k;
       any_calls = λ c hkroot mack ps. any_more {c = c} {h = hkroot} {m = mack} begins ps;
     }

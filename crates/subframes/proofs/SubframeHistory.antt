@@ -393,7 +393,8 @@ any_more :
     → (d : CollectSubframe) × (x : List ℕ) × (y : List ℕ) × History d x y (qs ++ ps)
 any_more {c} {h} {m} {qs} k [] = (c, h, m, subst⁻¹ (λ (l : List Page). History c h m l) (append-nil qs) k)
 any_more {c} {h} {m} {qs} k (p ∷ ps) =
-    let w = any_more (called k (any_call c h m p)) ps in
+    let f = feed (state c h m) p in
+    let w = any_more {c = back_state f.state} {h = f.state.hkroot} {m = f.state.mack} {qs = qs ++ (p ∷ [])} (called k (any_call c h m p)) ps in
     (w.0, w.1, w.2, subst (λ (l : List Page). History w.0 w.1 w.2 l) (append_assoc qs (p ∷ []) ps) w.3)
 
 pub any_pages : AnyPages
@@ -445,7 +446,7 @@ smallest_case =
       refused_between = λ {c} {hkroot = h} {mack = m} k x l p r x' m' e.
           let w : Misfit x m = (λ z. absurd (omega (arith, z.0, l))) in
           ((misfit_call w (one p r x' m' e)).answer, misfit (λ a b. h) (λ a b. b) k w (one p r x' m' e));
-      comes_out_lem = λ k r h' m' e.
+      comes_out = λ k r h' m' e.
           let f = feed_recovers k (word_page 14) r h' m' e in
           answer_back r.answer (Silent 1200 60)
           (fourteen_then (outcome r h' m') (f.recovers.like_new (replicate 540 0) (replicate 2160 0) refl refl fifteenth));

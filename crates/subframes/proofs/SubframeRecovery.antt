@@ -441,8 +441,8 @@ module _ (s : State) (r : List Page) (w : Holds s r) (p : Page) (e : is_admitted
   not_yet true h none = absurd (none ((reaches (has_word n) no_page (before r p) 0 15).0 (leb-true 15 (words n (before r p)) h)))
   not_yet false h none = refl
 
-  comes_out_lem : ComesOut (feed s p).answer p ↔ (Words n (grown r p) × (Words n (before r p) → ⊥))
-  comes_out_lem = (
+  comes_out : ComesOut (feed s p).answer p ↔ (Words n (grown r p) × (Words n (before r p) → ⊥))
+  comes_out = (
     λ z. let q = out_now.0 z in (
       (reaches (has_word n) no_page (grown r p) 0 15).0 (all_there q.0),
       λ c. absurd (omega (arith, leb-false 15 (words n (before r p)) q.1, (reaches (has_word n) no_page (before r p) 0 15).1 c)),
@@ -515,7 +515,7 @@ subframes_recover h m lh lm ps p =
     let w : Holds (after (new h m) ps) (run ps) = after_holds (new h m) [] ps (new_holds h m lh lm) in
     record {
       like_new = like_new_at s (run ps) w (run_from_lem is_admitted same_subframe [] ps refl) p;
-      exactly_when = λ e. comes_out_lem s (run ps) w p e;
+      exactly_when = λ e. comes_out s (run ps) w p e;
       else_nothing =
           λ e ne. stayed_in (leb 15 (words p.satellite (before (run ps) p ++ (p ∷ [])))) (leb 15 (words p.satellite (before (run ps) p)))
           (zeros_of (page_of p.satellite (before (run ps) p ++ (p ∷ [])))) (feed s p).answer p.week (subframe_of p.time)

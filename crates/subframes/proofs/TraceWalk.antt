@@ -15,7 +15,7 @@ use Rattle.subframes.specs.TracePromises.{FeedAll}
 use Rattle.runs.specs.Runs.{run_from}
 use Rattle.subframes.specs.SubframeRecovery.{is_admitted, same_subframe, grown, run, after, no_page}
 use Rattle.subframes.specs.SubframeHistory.{many, History, called}
-use Rattle.subframes.specs.TraceWalk.{answers, told, tells, Walk, begins, goes_on_lem, Walks, TraceWalked, seven_at, WalkExample}
+use Rattle.subframes.specs.TraceWalk.{answers, told, tells, Walk, begins, goes_on, Walks, TraceWalked, seven_at, WalkExample}
 use Rattle.subframes.specs.declared.subframe.CollectSubframe.{CollectSubframe}
 use Rattle.subframes.specs.declared.subframe.SubframeAnswer.{SubframeAnswer}
 use Rattle.subframes.specs.declared.subframe.SubframeAnswer.TheVariants.{Refused, Nothing, Complete, Silent}
@@ -179,7 +179,7 @@ module _ (trace : List ℕ) (whole : length trace % 12 ≡ 0) (c : CollectSubfra
         history = (ps, j, ap run (sym (append-nil ps)));
         onward = λ less r x' y' e. call_onward j (left 0) (left_whole 0 (omega arith)) r x' y' e (omega (arith, less, left_many 0 (omega arith)));
       }
-  walks (goes_on_lem {k} {done} {d} {x} {y} before r x' y' e) =
+  walks (goes_on {k} {done} {d} {x} {y} before r x' y' e) =
       let v = walks before in
       let qs = v.history.0 in
       let n = length (tells r) in
@@ -216,7 +216,7 @@ trace_walked trace whole c h m ps j k done d x y w = walks trace whole c h m ps 
 pub walk_example : WalkExample
 unfolding feed_all feed_each feed offered used changed answer_at refusal small entries_from entry_at
 walk_example =
-    goes_on_lem
-    (goes_on_lem (goes_on_lem begins (record { collector = seven_at 1; answer = Nothing; consumed = 1 }) (replicate 540 0) (replicate 2160 0) refl)
+    goes_on
+    (goes_on (goes_on begins (record { collector = seven_at 1; answer = Nothing; consumed = 1 }) (replicate 540 0) (replicate 2160 0) refl)
     (record { collector = seven_at 1; answer = Refused 2; consumed = 0 }) (replicate 540 0) (replicate 2160 0) refl)
     (record { collector = seven_at 2; answer = Nothing; consumed = 1 }) (replicate 540 0) (replicate 2160 0) refl

@@ -72,7 +72,7 @@ pub record CodeOrder : Type 0 where
       → Walk trace c hkroot mack (length (entries trace)) l d x y → Walk other c hkroot mack (length (entries other)) k e x' y'
       → HoldSame d e x x' y y' × AnsweredSame (entries trace) l (entries other) k
   -- such calls go on with a history, so that what holds of a history holds after them; and of any pages there are such calls
-  pub goes_on_lem : {c d : CollectSubframe} {hkroot mack x y : List ℕ} {ps qs : List Page} {l : List Answer} → History c hkroot mack ps
+  pub goes_on : {c d : CollectSubframe} {hkroot mack x y : List ℕ} {ps qs : List Page} {l : List Answer} → History c hkroot mack ps
       → Calls c hkroot mack qs l d x y → History d x y (ps ++ qs)
   pub any_calls : (c : CollectSubframe) (hkroot mack : List ℕ) (ps : List Page)
       → (l : List Answer) × (d : CollectSubframe) × (x : List ℕ) × (y : List ℕ) × Calls c hkroot mack ps l d x y

@@ -187,7 +187,7 @@ pub record SmallestCase : Type 0 where
       → (x : List ℕ) → length x ≡ 539 → (p : Page) (r : SubframeFed) (x' mack' : List ℕ) → FeedSubframe c x mack p r x' mack'
       → (r.answer ≡ Refused 1) × History r.collector hkroot mack' (words_from 0 7)
   -- so that words 7 to 13 make it a history of 14 words, and with the last one the pair comes out: silent, and with a last byte of 1 complete
-  pub comes_out_lem : {c : CollectSubframe} {hkroot mack : List ℕ} → History c hkroot mack (words_from 0 7 ++ words_from 7 7)
+  pub comes_out : {c : CollectSubframe} {hkroot mack : List ℕ} → History c hkroot mack (words_from 0 7 ++ words_from 7 7)
       → (r : SubframeFed) (hkroot' mack' : List ℕ) → FeedSubframe c hkroot mack (word_page 14) r hkroot' mack' → r.answer ≡ Silent 1200 60
   pub completes : {c : CollectSubframe} {hkroot mack : List ℕ} → History c hkroot mack (words_from 0 7 ++ words_from 7 7)
       → (r : SubframeFed) (hkroot' mack' : List ℕ) → FeedSubframe c hkroot mack last_page r hkroot' mack' → r.answer ≡ Complete 1200 60

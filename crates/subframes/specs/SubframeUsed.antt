@@ -2,7 +2,7 @@
 -- Assumes nothing.
 use Rattle.std.specs.Prelude.{ℕ, ◌-◌, List, [], true, false, cond, ◌≡◌, replicate}
 use Rattle.layouts.specs.Answer.{nothing, gives, refusal}
-use Rattle.subframes.specs.Subframe.{State, new, Page, Fed, word_of, subframe_of, feed_checks, changed, used, is_used, feed}
+use Rattle.subframes.specs.Subframe.{State, new, Page, word_of, subframe_of, feed_checks, changed, used, is_used, feed}
 use Rattle.subframes.specs.SubframePromises.{state, call, meaning_word, IsUsed}
 use Rattle.subframes.specs.declared.subframe.CollectSubframe.{CollectSubframe}
 use Rattle.subframes.specs.declared.subframe.WordAnswer.{WordAnswer}

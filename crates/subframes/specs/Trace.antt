@@ -31,9 +31,9 @@ pub record FedMany : Type 0 where
 
 -- one of three, by an answer
 abbrev pub by_answer : Answer → FedMany → FedMany → FedMany → FedMany
-by_answer (refused q) ends goes_on_lem comes_out_lem = ends
-by_answer nothing ends goes_on_lem comes_out_lem = goes_on_lem
-by_answer (gives l) ends goes_on_lem comes_out_lem = comes_out_lem
+by_answer (refused q) ends goes_on comes_out = ends
+by_answer nothing ends goes_on comes_out = goes_on
+by_answer (gives l) ends goes_on comes_out = comes_out
 
 -- Entries fed one by one, n of them consumed before: until a pair comes out, complete or silent, or the trace ends. An entry that would be refused ends it
 -- before that entry; only as the first one it is answered with its number.

@@ -30,7 +30,7 @@ tells r = told r.consumed (meaning_subframe r.answer)
 -- The calls so far, from a record c and the memory then: how many entries of the trace were told of, their answers, and what the caller holds now.
 pub data Walk (trace : List ℕ) (c : CollectSubframe) (hkroot mack : List ℕ) : ℕ → List Answer → CollectSubframe → List ℕ → List ℕ → Type 0 where
   begins : Walk trace c hkroot mack 0 [] c hkroot mack
-  goes_on_lem : {k : ℕ} {done : List Answer} {d : CollectSubframe} {x y : List ℕ} → Walk trace c hkroot mack k done d x y
+  goes_on : {k : ℕ} {done : List Answer} {d : CollectSubframe} {x y : List ℕ} → Walk trace c hkroot mack k done d x y
       → (r : TraceFed) (x' y' : List ℕ) → FeedAll d x y (drop (12 * k) trace) r x' y'
       → Walk trace c hkroot mack (k + length (tells r)) (done ++ tells r) r.collector x' y'
 

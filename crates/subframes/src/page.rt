@@ -7,7 +7,7 @@ ghost use Rattle.subframes.specs.inner.Page.{page_of, state_of, Offered, PageFed
 use crate::subframe::{WordAnswer, WordCount};
 
 // Whose page it is, and when it came.
-#[derive(Drop)]
+#[derive(Clone, Copy)]
 pub(crate) struct Entry {
     pub satellite: u8,
     pub week: u16,
@@ -15,7 +15,7 @@ pub(crate) struct Entry {
 }
 
 // What became of an admitted page: not used, used, or used as the last of its subframe.
-#[derive(Drop)]
+#[derive(Clone, Copy)]
 pub(crate) enum PageTaken {
     Unused,
     Used,

@@ -13,7 +13,7 @@ use crate::page::{Entry, PageTaken};
 use layouts::gst;
 
 // How many words of a satellite's subframe have come, and to which subframe they belong; the bytes are lent by the caller.
-#[derive(Drop)]
+#[derive(Clone, Copy)]
 pub struct CollectSubframe {
     pub week: u16,
     pub subframe: u16,
@@ -21,7 +21,7 @@ pub struct CollectSubframe {
 }
 
 // A pair of zeros alone is silent in place of complete: the satellite carries no OSNMA, and its pair goes no further.
-#[derive(Drop)]
+#[derive(Clone, Copy)]
 pub enum SubframeAnswer {
     Refused(u8),
     Nothing,
@@ -29,40 +29,40 @@ pub enum SubframeAnswer {
     Silent { week: u16, time: u32 },
 }
 
-#[derive(Drop)]
+#[derive(Clone, Copy)]
 pub struct SubframeFed {
     pub collector: CollectSubframe,
     pub answer: SubframeAnswer,
 }
 
 // One satellite's count: the number of the word that comes next, 15 when all have come.
-#[derive(Drop)]
+#[derive(Clone, Copy)]
 pub struct WordCount {
     pub words: u8,
 }
 
-#[derive(Drop)]
+#[derive(Clone, Copy)]
 pub enum WordAnswer {
     Refused(u8),
     Unused,
     Used,
 }
 
-#[derive(Drop)]
+#[derive(Clone, Copy)]
 pub struct WordTaken {
     pub next: WordCount,
     pub answer: WordAnswer,
 }
 
 // The two kinds of message that a subframe brings of each satellite.
-#[derive(Drop)]
+#[derive(Clone, Copy)]
 pub enum Message {
     Hkroot,
     Mack,
 }
 
 // Where a message lies in its buffer, if it is shown.
-#[derive(Drop)]
+#[derive(Clone, Copy)]
 pub enum SubframeShown {
     Shown { first: usize, many: usize },
     Nothing,
@@ -70,7 +70,7 @@ pub enum SubframeShown {
 }
 
 // Where an HKROOT message lies, and its bytes.
-#[derive(Drop)]
+#[derive(Clone, Copy)]
 pub struct HkrootMessage {
     pub answer: SubframeShown,
     pub bytes: [u8; 15],

@@ -14,7 +14,7 @@ use crate::subframe::{CollectSubframe, SubframeAnswer};
 use crate::{page, subframe};
 use layouts::gst;
 
-#[derive(Drop)]
+#[derive(Clone, Copy)]
 pub struct TraceFed {
     pub collector: CollectSubframe,
     pub answer: SubframeAnswer,

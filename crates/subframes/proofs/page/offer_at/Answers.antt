@@ -1,0 +1,18 @@
+-- `page::offer_at`: a case for each answer of the count.
+-- Assumes nothing.
+use Rattle.subframes.proofs.Pages.{count_refuses, count_stays, count_rises}
+use Rattle.subframes.proofs.page.offer_at.Goals as goal
+
+pub keep-requires : goal.keep-requires
+keep-requires c =
+    let a = c.args in
+    let t = c.take-taken in
+    let q = c.requires in
+    let r = count_rises a.counts.now a.hkroot.now a.mack.now a.page.now a.i a.word t.result t.ensures q.4 c.in-Used.is in
+    (q.0, q.1, q.2, q.3, q.4, r.0, r.1)
+
+pub returns-in-Refused : goal.returns-in-Refused
+returns-in-Refused c = search count_refuses
+
+pub returns-in-Unused : goal.returns-in-Unused
+returns-in-Unused c = search count_stays
