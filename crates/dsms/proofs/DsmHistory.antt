@@ -1,6 +1,6 @@
 -- Whatever history of calls: the record and the memory that the code left are those of its blocks, so that what holds of the definition holds of the code.
 -- Assumes nothing.
-use Prim.Native.Nat.{ℕ, ◌+◌, ◌*◌}
+use Prim.Native.Nat.{ℕ, ◌*◌}
 use native.Mathlib.Omega.{arith}
 use mathlib.Core.Path.{◌≡◌, refl, sym, ap, ◌∙◌, subst, subst⁻¹}
 use mathlib.Core.List.{List, [], ◌∷◌, ◌++◌, append-nil, append_assoc}
@@ -245,12 +245,12 @@ kind_coded s = go (view s) (ltb s.id 12)
     go (gives ns) true = refl
     go (gives ns) false = refl
 
-any_more : {c : CollectDsm} {memory : List ℕ} {ds : List Call} → History c memory ds → (cs : List Call)
+any_more : (cs : List Call) {c : CollectDsm} {memory : List ℕ} {ds : List Call} → History c memory ds
     → (k : CollectDsm) × (x : List ℕ) × History k x (ds ++ cs)
-any_more {c} {memory} {ds} h [] = (c, memory, subst⁻¹ (λ (l : List Call). History c memory l) (append-nil ds) h)
-any_more {c} {memory} {ds} h (d ∷ cs) =
+any_more [] {c} {memory} {ds} h = (c, memory, subst⁻¹ (λ (l : List Call). History c memory l) (append-nil ds) h)
+any_more (d ∷ cs) {c} {memory} {ds} h =
     let f = any_feed c memory d in
-    let w = any_more (called h (by_value d f.0 f.1 f.2)) cs in
+    let w = any_more cs (called h (by_value d f.0 f.1 f.2)) in
     (w.0, w.1, subst (λ (l : List Call). History w.0 w.1 l) (append_assoc ds (d ∷ []) cs) w.2)
 
 pub any_calls : AnyCalls
@@ -266,7 +266,7 @@ any_calls = record {
         ap (λ (k : Answer). record { id = shown_id s; kind = k; bytes = shown memory (view s) }) (kind_coded s),
       );
   view_answer = λ c memory. let s = state c memory in (back_dsm (named_by s (view s)), answer_coded s (view s));
-  blocks = λ memory l cs. any_more (begun (record { id = 0; came = false; held = replicate 16 false; done = false }) memory refl l) cs;
+  blocks = λ memory l cs. any_more cs (begun (record { id = 0; came = false; held = replicate 16 false; done = false }) memory refl l);
 }
 
 -- The smallest case, computed.

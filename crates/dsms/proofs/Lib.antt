@@ -6,4 +6,3 @@ pub mod DsmSound
 pub mod DsmUnique
 pub mod DsmViewUnique
 pub mod Kept
-pub mod Passed

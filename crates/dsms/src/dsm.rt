@@ -12,7 +12,7 @@ use layouts::dsm_header::DsmType;
 use layouts::{dsm_header, dsm_kroot, dsm_pkr};
 
 // What has been collected of the DSM with this ID; its bytes are lent by the caller.
-#[derive(Drop)]
+#[derive(Clone, Copy)]
 pub struct CollectDsm {
     pub id: u8,
     pub came: bool,
@@ -20,7 +20,7 @@ pub struct CollectDsm {
     pub done: bool,
 }
 
-#[derive(Drop)]
+#[derive(Clone, Copy)]
 pub enum DsmAnswer {
     Refused(u8),
     Nothing,
@@ -31,14 +31,14 @@ pub enum DsmAnswer {
     },
 }
 
-#[derive(Drop)]
+#[derive(Clone, Copy)]
 pub struct DsmFed {
     pub collector: CollectDsm,
     pub answer: DsmAnswer,
 }
 
 // Whether a DSM is shown, and how many of its bytes.
-#[derive(Drop)]
+#[derive(Clone, Copy)]
 pub enum DsmShown {
     Shown(usize),
     Nothing,

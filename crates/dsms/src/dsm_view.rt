@@ -1,5 +1,4 @@
-// The DSM that is shown, as one value that keeps the caller's slice. The prover's own walk does not cover a struct with a reference, so each function over one
-// is proved by hand; `view_answer` has plain parameters, and its callers need no such proof.
+// The DSM that is shown, as one value that keeps the caller's slice.
 ghost use Rattle.std.specs.Prelude.{◌≡◌};
 ghost use Rattle.layouts.specs.Meaning.{meaning_type};
 ghost use Rattle.dsms.specs.DsmPromises.{state};
@@ -10,7 +9,7 @@ use crate::dsm;
 use crate::dsm::{CollectDsm, DsmAnswer, DsmShown};
 use layouts::dsm_header::DsmType;
 
-#[derive(Drop)]
+#[derive(Clone, Copy)]
 pub struct Dsm<'a> {
     pub id: u8,
     pub dsm_type: DsmType,

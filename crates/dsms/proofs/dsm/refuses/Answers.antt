@@ -1,0 +1,16 @@
+-- `dsm::refuses`: each check, in its order.
+-- Assumes nothing.
+use Rattle.dsms.proofs.Blocks.{other_memory, other_block, other_id, admitted}
+use Rattle.dsms.proofs.dsm.refuses.Goals as goal
+
+pub returns-then-dsm-ne208 : goal.returns-then-dsm-ne208
+returns-then-dsm-ne208 c = search other_memory
+
+pub returns-then-block-ne13 : goal.returns-then-block-ne13
+returns-then-block-ne13 c = search other_block
+
+pub returns-then-collector-gt15 : goal.returns-then-collector-gt15
+returns-then-collector-gt15 c = search other_id
+
+pub returns : goal.returns
+returns c = search admitted
