@@ -6,12 +6,12 @@ use mathlib.Core.Bool.{Bool, true, false}
 use Prim.Native.Nat.{ℕ, zero, suc, ◌+◌, ◌-◌, ◌*◌, ◌/◌, ◌%◌, ◌^◌, ◌≤◌, ◌<◌}
 use native.Mathlib.Nat.{add_assoc, not-suc-le-zero, le_of_suc-le-suc}
 use native.Mathlib.Omega.{arith}
-use lib.Dec.{T, eqb, eqb→eq, eqb-suc-zero}
+use lib.Dec.{T, eqb→eq, eqb-suc-zero}
 use lib.ListN.{length, take, drop, get_or, length-drop}
 use lib.Seq.{ext_get_or, get_or-take, get_or-drop, length-take-le}
 use borrow.Author.Tests.{lt-ltb}
 use Rattle.layouts.specs.Answer.{Answer, refused, nothing, gives, answered}
-use Rattle.layouts.specs.Bits.{field, Field, gapless, value, read}
+use Rattle.layouts.specs.Bits.{field, Field, gapless, value}
 use Rattle.layouts.proofs.Fields.{field_add, field_lt, field_byte, field_mid}
 use Rattle.runs.proofs.Basics.{and_true}
 use Rattle.layouts.specs.Packed.{packed_on, bytes_of, too_wide}

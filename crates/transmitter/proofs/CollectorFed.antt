@@ -8,8 +8,7 @@ use native.Mathlib.Omega.{arith}
 use lib.Dec.{eqb, ltb}
 use lib.ListN.{length, take, drop, get_or, length-drop, length-append}
 use borrow.Author.Tests.{ltb-true, ltb-false, eqb-true, eqb-false, lt-ltb, le-ltb, not-false}
-use Rattle.layouts.specs.Lists.{all}
-use Rattle.layouts.specs.Answer.{Answer, nothing, gives, Check, refusal, answered, shown, Copied}
+use Rattle.layouts.specs.Answer.{Answer, nothing, gives, Check, refusal, shown, Copied}
 use Rattle.layouts.specs.Bits.{the, value}
 use Rattle.layouts.specs.Packed.{packed_on}
 use Rattle.layouts.specs.Sizes.{size, kroot_blocks, pkr_blocks}
@@ -21,7 +20,7 @@ use Rattle.layouts.proofs.Packed.{field_front}
 use Rattle.dsms.specs.Dsm as dsm
 use Rattle.dsms.specs.Dsm.{State, new, id_of, block_of, fresh, begun, taken, counted, view}
 use Rattle.dsms.specs.DsmPromises.{state}
-use Rattle.dsms.specs.DsmRecovery.{Call, is_admitted, fed_to, after, before, grown, run, counts, is_whole, dsm_of, in_view, bytes_in_view, first_copies}
+use Rattle.dsms.specs.DsmRecovery.{Call, is_admitted, fed_to, after, before, grown, counts, is_whole, dsm_of, in_view, bytes_in_view, first_copies}
 use Rattle.dsms.specs.DsmRecovery.{run_id, comes_out, Recovers, Viewed}
 use Rattle.dsms.specs.DsmHistory.{by_value}
 use Rattle.dsms.specs.declared.dsm.CollectDsm.{CollectDsm}
@@ -276,16 +275,16 @@ module _ (sent : List ℕ) (id : ℕ) (long : length sent ≡ 208) (few : id ≤
     refl,
   )
 
-  any_more : {c : CollectDsm} {memory ms : List ℕ} → Fed sent id c memory ms → (ns : List ℕ) → Counted (blocks sent id) ns
+  any_more : (ns : List ℕ) {c : CollectDsm} {memory ms : List ℕ} → Fed sent id c memory ms → Counted (blocks sent id) ns
       → (c' : CollectDsm) × (memory' : List ℕ) × Fed sent id c' memory' (ms ++ ns)
-  any_more {c} {memory} {ms} f [] b = (c, memory, subst⁻¹ (λ (l : List ℕ). Fed sent id c memory l) (append-nil ms) f)
-  any_more {c} {memory} {ms} f (n ∷ ns) b =
+  any_more [] {c} {memory} {ms} f b = (c, memory, subst⁻¹ (λ (l : List ℕ). Fed sent id c memory l) (append-nil ms) f)
+  any_more (n ∷ ns) {c} {memory} {ms} f b =
       let r = any_calls.feed c memory (call sent id long few n) in
-      let g = any_more (called n f (one_cut n b.0) (by_value (call sent id long few n) r.0 r.1 r.2)) ns b.1 in
+      let g = any_more ns (called n f (one_cut n b.0) (by_value (call sent id long few n) r.0 r.1 r.2)) b.1 in
       (g.0, g.1, subst (λ (l : List ℕ). Fed sent id g.0 g.1 l) (append_assoc ms (n ∷ []) ns) g.2)
 
   any_order : AnyOrder sent id
-  any_order c memory l low e ns b = any_more (idle c memory l low e) ns b
+  any_order c memory l low e ns b = any_more ns (idle c memory l low e) b
 
 -- what a write leaves
 over_long : (m d : List ℕ) → length m ≤ length d → length (over m d) ≡ length d

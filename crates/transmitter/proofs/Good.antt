@@ -8,7 +8,7 @@ use native.Mathlib.Omega.{arith}
 use lib.ListN.{length, take, drop, get_or}
 use lib.Seq.{take_at}
 use borrow.Author.Tests.{eq-eqb}
-use Rattle.layouts.specs.Answer.{Answer, nothing, gives, Check, refusal}
+use Rattle.layouts.specs.Answer.{Answer, gives, Check, refusal}
 use Rattle.layouts.specs.Bits.{Field, the, value}
 use Rattle.layouts.specs.Sizes.{size, kroot_blocks, pkr_blocks}
 use Rattle.layouts.specs.DsmHeader.{dsm_type_of}

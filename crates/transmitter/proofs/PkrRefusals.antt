@@ -9,7 +9,6 @@ use lib.Dec.{eqb}
 use lib.ListN.{length, drop}
 use borrow.Author.Tests.{lt-ltb, le-ltb, eq-eqb, ne_eqb}
 use Rattle.layouts.specs.Answer.{refusal}
-use Rattle.layouts.specs.Bits.{the}
 use Rattle.layouts.specs.Sizes.{size, pkr_blocks, key_types, naming}
 use Rattle.layouts.specs.DsmPkr.{new_key_sizes}
 use Rattle.layouts.specs.Packed.{too_wide}

@@ -3,7 +3,7 @@
 use mathlib.Core.Path.{◌≡◌, refl, sym, ap, ◌∙◌, subst}
 use mathlib.Core.List.{List, [], ◌∷◌, ◌++◌, map}
 use mathlib.Core.Bool.{Bool, true, false, cond, not}
-use Prim.Native.Nat.{ℕ, ◌+◌, ◌-◌, ◌*◌, ◌/◌, ◌^◌, ◌≤◌, ◌<◌}
+use Prim.Native.Nat.{ℕ, ◌+◌, ◌*◌, ◌/◌, ◌^◌, ◌≤◌, ◌<◌}
 use native.Mathlib.Nat.{mul-one, one-mul, zero-add, zero-mul}
 use native.Mathlib.Omega.{arith}
 use lib.Dec.{T, ltb, leb, eqb, leb→le}
@@ -11,7 +11,7 @@ use lib.ListN.{length}
 use lib.Pow.{shr_lt, shr_mono, shl-shr}
 use borrow.Author.Tests.{ltb-true, ltb-false, lt-ltb, le-ltb, eq-eqb, ne_eqb}
 use Rattle.layouts.specs.Answer.{refused, gives, ◌when◌, refusal, answered}
-use Rattle.layouts.specs.Bits.{field, Field, row, the, value, reach}
+use Rattle.layouts.specs.Bits.{field, Field, row, value, reach}
 use Rattle.layouts.specs.BitReader.{ReadBits}
 use Rattle.layouts.specs.Packed.{packed_on}
 use Rattle.layouts.specs.declared.answer.Number.{Number}

@@ -10,9 +10,7 @@ use borrow.Author.Tests.{lt-ltb, le-ltb}
 use Rattle.layouts.specs.Answer.{gives, Check, Copied, shown}
 use Rattle.layouts.specs.Bits.{the, value}
 use Rattle.layouts.specs.DsmHeader.{dsm_type_of}
-use Rattle.layouts.specs.DsmKroot as kroot
 use Rattle.layouts.specs.DsmKroot.{kroot_layout, kroot_part, signature_part}
-use Rattle.layouts.specs.DsmPkr as pkr
 use Rattle.layouts.specs.DsmPkr.{pkr_layout, new_key_part}
 use Rattle.layouts.specs.declared.dsm_header.DsmType.TheVariants.{Kroot, Pkr}
 use Rattle.transmitter.specs.Write.{Written, written, write_kroot, kroot_checks, kroot_message, write_pkr, pkr_checks, pkr_message}

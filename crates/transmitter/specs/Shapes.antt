@@ -3,7 +3,6 @@
 -- Assumes nothing.
 use Rattle.std.specs.Prelude.{ℕ, List, [], ◌∷◌, map, Bool, true, false, ◌&&◌, ◌||◌, ◌≡◌, length, replicate, eqb}
 use Rattle.layouts.specs.Answer.{refusal}
-use Rattle.layouts.specs.Sizes.{size}
 use Rattle.transmitter.specs.Write.{KrootValues, kroot_checks, PkrValues, pkr_checks}
 
 -- KROOT: the code of the count, the code of the key's size, and the bytes of key, signature and padding

@@ -10,14 +10,14 @@ use layouts::dsm_header::{DSM_BLOCK_ID, DSM_ID};
 use layouts::{dsm_kroot, dsm_pkr};
 
 // A block's header byte, or the number of the refusal.
-#[derive(Drop)]
+#[derive(Clone, Copy)]
 pub enum BlockHeader {
     Byte(u8),
     Refused(u8),
 }
 
 // A block; zeros where it is refused.
-#[derive(Drop)]
+#[derive(Clone, Copy)]
 pub struct BlockCut {
     pub answer: BlockHeader,
     pub bytes: [u8; 13],

@@ -17,7 +17,7 @@ use layouts::dsm_kroot::{
 };
 
 // The values of a KROOT message, as they stand in their fields.
-#[derive(Drop)]
+#[derive(Clone, Copy)]
 pub struct KrootValues {
     pub nb_dk: u64,
     pub pkid: u64,
@@ -33,7 +33,7 @@ pub struct KrootValues {
 }
 
 // The values that stand in a message, or the number of the refusal.
-#[derive(Drop)]
+#[derive(Clone, Copy)]
 pub enum KrootRead {
     Values(KrootValues),
     Refused(u8),

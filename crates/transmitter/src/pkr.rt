@@ -14,7 +14,7 @@ use layouts::dsm_pkr;
 use layouts::dsm_pkr::{ITN, MID, NB_DP, NPK_BYTE, NPKID, NPKT};
 
 // The values of a PKR message, as they stand in their fields.
-#[derive(Drop)]
+#[derive(Clone, Copy)]
 pub struct PkrValues {
     pub nb_dp: u64,
     pub mid: u64,
@@ -23,7 +23,7 @@ pub struct PkrValues {
 }
 
 // The values that stand in a message, or the number of the refusal.
-#[derive(Drop)]
+#[derive(Clone, Copy)]
 pub enum PkrRead {
     Values(PkrValues),
     Refused(u8),
