@@ -1,6 +1,6 @@
 -- What the MACK store keeps: bytes of other messages stay, and a message is found until its place is emptied.
 -- Assumes nothing.
-use Prim.Native.Nat.{ℕ, suc, ◌+◌, ◌-◌, ◌*◌, ◌≤◌, ◌<◌}
+use Prim.Native.Nat.{ℕ, suc, ◌+◌, ◌*◌, ◌≤◌, ◌<◌}
 use native.Mathlib.Omega.{arith}
 use mathlib.Core.Path.{◌≡◌, refl, sym, ap, ◌∙◌, subst, subst⁻¹}
 use mathlib.Core.List.{List, [], ◌∷◌}
@@ -9,10 +9,10 @@ use lib.ListN.{length, get_or, take, drop}
 use lib.Dec.{ltb, eqb}
 use borrow.Author.Tests.{eq-eqb, eqb-true, eqb-false, ltb-true, ltb-false, not-true, not-false}
 use Rattle.layouts.proofs.Timed.{satellite_fits, fits_all}
-use Rattle.layouts.specs.Answer.{gives, refusal}
-use Rattle.storage.specs.Store.{Storage, State, Call, first, entry, is_time, has_time, ask_checks, next_place, moves, place_for, number_for, place_of}
+use Rattle.layouts.specs.Answer.{gives}
+use Rattle.storage.specs.Store.{Storage, State, Call, first, entry, is_time, has_time, next_place, moves, place_for, number_for, place_of}
 use Rattle.layouts.specs.Lists.{put}
-use Rattle.storage.specs.Store.{number_of, stored, store, reached, first_of, found, get}
+use Rattle.storage.specs.Store.{number_of, stored, reached, first_of, get}
 use Rattle.storage.specs.StoreKeeps.{new_store, next, after, entry_of, first_byte, at_time, reached_by, moves_on, bytes_at, is_stored, empties, lasts, Keeps}
 use Rattle.storage.specs.StoreKeeps.{StoreKeeps, StoreFinds}
 use Rattle.storage.proofs.Bytes.{put_long, put_before, put_behind, part_put, part_before, part_behind}

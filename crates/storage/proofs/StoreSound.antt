@@ -1,9 +1,9 @@
 -- Whatever calls the MACK store gets, its record stays legal and its lists keep their lengths.
 -- Assumes nothing.
-use Prim.Native.Nat.{ℕ, suc, ◌+◌, ◌-◌, ◌*◌, ◌≤◌, ◌<◌}
+use Prim.Native.Nat.{ℕ, suc, ◌+◌, ◌*◌, ◌≤◌, ◌<◌}
 use native.Mathlib.Nat.{mul-suc, mul-le-mul_left}
 use native.Mathlib.Omega.{arith}
-use mathlib.Core.Path.{◌≡◌, refl, sym, ap, ◌∙◌, subst, subst⁻¹}
+use mathlib.Core.Path.{◌≡◌, refl, sym, ap, ◌∙◌, subst⁻¹}
 use mathlib.Core.List.{List, [], ◌∷◌}
 use mathlib.Core.Bool.{Bool, true, false, cond}
 use lib.ListN.{length, get_or, length-set, length-replicate, get_or-replicate}
@@ -11,7 +11,7 @@ use lib.Dec.{ltb, eqb}
 use borrow.Author.Tests.{le-leb, lt-ltb, eq-eqb, eqb-true, eqb-false, ltb-true, ltb-false}
 use Rattle.layouts.specs.Answer.{refusal}
 use Rattle.storage.specs.Store.{Storage, State, Asked, Call, Outcome, entry, legal_entry, legal_time, legal_entries, legal_place, legal, is_time, has_time}
-use Rattle.storage.specs.Store.{store_checks, next_place, moves, place_for, number_for, place_of, number_of, entered, stored, store, new_storage}
+use Rattle.storage.specs.Store.{store_checks, next_place, moves, place_for, number_for, place_of, number_of, entered, stored, new_storage}
 use lib.Seq.{get_or-set_same, get_or-set_other}
 use Rattle.storage.specs.inner.Places.{Long}
 use Rattle.storage.specs.StoreKeeps.{new_store, next, after, first_byte, is_stored}

@@ -11,7 +11,7 @@ use crate::places::{Admitted, Asked, Place};
 use layouts::gst;
 
 // What each place and each message of it has; the bytes of the messages are lent by the caller.
-#[derive(Drop)]
+#[derive(Clone, Copy)]
 pub struct MackStorage {
     pub current: u8,
     // of each place: whether it has a time, its week and time of week, and its number of messages
@@ -24,20 +24,20 @@ pub struct MackStorage {
     pub statuses: [u8; 432],
 }
 
-#[derive(Drop)]
+#[derive(Clone, Copy)]
 pub enum StoreAnswer {
     Stored,
     Refused(u8),
 }
 
-#[derive(Drop)]
+#[derive(Clone, Copy)]
 pub struct MackStored {
     pub storage: MackStorage,
     pub answer: StoreAnswer,
 }
 
 // Where a message lies in the lent bytes, and its NMA status.
-#[derive(Drop)]
+#[derive(Clone, Copy)]
 pub enum MackFound {
     At { first: usize, status: u8 },
     Nothing,

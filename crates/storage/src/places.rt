@@ -9,7 +9,7 @@ ghost use Rattle.storage.specs.StorePromises.{meaning_found};
 use crate::mack_storage::MackFound;
 
 // What is asked for, or stored: a satellite and a time.
-#[derive(Drop)]
+#[derive(Clone, Copy)]
 pub(crate) struct Asked {
     pub satellite: u8,
     pub week: u16,
@@ -17,7 +17,7 @@ pub(crate) struct Asked {
 }
 
 // What a place has: a time or none, and so many messages.
-#[derive(Drop)]
+#[derive(Clone, Copy)]
 pub(crate) struct Place {
     pub timed: bool,
     pub week: u16,
@@ -211,7 +211,7 @@ fn status_refuses(status: u8, same: bool, count: usize, messages: usize) -> u8
 
 // Where a message goes: a message of another time than the current place's to the next place, which is emptied; one of its own time, or at a place without a
 // time, behind those that are there. Or the refusal number.
-#[derive(Drop)]
+#[derive(Clone, Copy)]
 pub(crate) enum Admitted {
     Refused(u8),
     At { place: usize, number: usize },
