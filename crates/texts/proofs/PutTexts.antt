@@ -1,17 +1,15 @@
 -- Laws of texts put into a lent buffer.
 -- Assumes nothing.
 use mathlib.Core.Path.{◌≡◌, refl, sym, ap, ◌∙◌, subst}
-use mathlib.Core.List.{List, [], ◌∷◌, ◌++◌}
+use mathlib.Core.List.{List, [], ◌∷◌}
 use mathlib.Core.Bool.{Bool, true, false, not}
 use Prim.Native.Nat.{ℕ, ◌+◌, ◌-◌, ◌*◌, ◌/◌, ◌≤◌, ◌<◌}
 use native.Mathlib.Nat.{zero-add}
 use native.Mathlib.Omega.{arith}
 use lib.ListN.{length, take}
-use lib.Seq.{take_at}
 use lib.Dec.{leb}
-use borrow.Author.Tests.{lt-leb, le-leb, leb-true, leb-false, not-true, not-false, ne_eqb}
+use borrow.Author.Tests.{lt-leb, le-leb, leb-true, leb-false, not-false, ne_eqb}
 use Rattle.layouts.specs.Answer.{gives, Check, ◌when◌, refusal}
-use Rattle.layouts.specs.Lists.{put as put_at}
 use Rattle.texts.specs.Puts.{Puts, meaning_end, room_check, puts, outcome, text_put, PutText, bytes_put}
 use Rattle.texts.specs.Lines.{Part, line, Written, wrote, written}
 use Rattle.texts.specs.declared.put.End.{End}

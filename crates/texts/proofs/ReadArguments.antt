@@ -11,7 +11,7 @@ use Rattle.layouts.specs.Answer.{Answer, refused, gives, Check, ◌when◌, refu
 use Rattle.layouts.specs.Gst.{svn_gst_checks}
 use Rattle.layouts.proofs.Answers.{stop, pass, done, by_value, none_fails, refused_with, given_with}
 use Rattle.texts.specs.Decimal.{is_decimal, number, most}
-use Rattle.texts.specs.Arguments.{text_checks, arguments_answer}
+use Rattle.texts.specs.Arguments.{text_checks}
 
 -- one argument by itself
 pub decimal_refused : (s : List ℕ) (a : Answer) {b : Bool} → b ≡ is_decimal s → not b ≡ true → refused 7 ≡ answered (refusal (7 when not (is_decimal s) ∷ [])) a

@@ -1,6 +1,6 @@
 -- Texts put into a lent buffer, from a place `at` on.
 -- Assumes nothing.
-use Rattle.std.specs.Prelude.{ℕ, ◌+◌, ◌≡◌, List, [], ◌∷◌, ◌++◌, cond, not, length, leb, eqb}
+use Rattle.std.specs.Prelude.{ℕ, ◌+◌, ◌≡◌, List, [], ◌∷◌, cond, not, length, leb, eqb}
 use Rattle.layouts.specs.Answer.{Answer, refused, gives, Check, ◌when◌, refusal}
 use Rattle.layouts.specs.Lists.{put}
 use Rattle.texts.specs.Decimal.{digits}

@@ -6,7 +6,7 @@ ghost use Rattle.texts.specs.Arguments.{ReadDecimal, InRange, ReadArguments};
 use layouts::answer::Number;
 use layouts::{gst, numbers};
 
-#[derive(Drop)]
+#[derive(Clone, Copy)]
 pub enum Arguments {
     Refused(u8),
     Given { satellite: u8, week: u16, time: u32 },

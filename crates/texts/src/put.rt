@@ -8,7 +8,7 @@ ghost use Rattle.texts.specs.Puts.{PutWords, PutNumber, PutHexadecimal, PutNewli
 use crate::hexadecimal;
 
 // Where a text ends, or the number of the refusal.
-#[derive(Drop)]
+#[derive(Clone, Copy)]
 pub enum End {
     At(usize),
     Refused(u8),
