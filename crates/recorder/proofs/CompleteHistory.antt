@@ -3,7 +3,7 @@
 use mathlib.Core.Path.{◌≡◌, refl, sym, ap, ◌∙◌}
 use mathlib.Core.Bool.{Bool, true, false, cond}
 use mathlib.Core.List.{List, [], ◌∷◌, ◌++◌}
-use Prim.Native.Nat.{ℕ, ◌-◌, ◌*◌, ◌%◌, ◌<◌}
+use Prim.Native.Nat.{ℕ, ◌-◌, ◌*◌, ◌%◌, ◌≤◌, ◌<◌}
 use native.Mathlib.Omega.{arith}
 use lib.Dec.{eqb}
 use lib.ListN.{length, get_or}
@@ -41,16 +41,16 @@ coded s n = go (eqb (refusal (view_checks s n)) 0) (eqb (get_or s.counts (n - 1)
     go false b c = refl
 
 -- the message number of a subframe is not refused
-same_message : (k T id f : ℕ) → refusal (table_checks k T id (f % 2)) ≡ refusal (table_checks k T id 0)
-same_message k T id f =
-    ap (λ (b : Bool). refusal (size_checks k T ++ (7 when b ∷ 8 when eqb (row_of id table).nt 0 ∷ []))) (le-ltb 1 (f % 2) (omega arith))
+same_message : (k T id msg : ℕ) → msg ≤ 1 → refusal (table_checks k T id msg) ≡ refusal (table_checks k T id 0)
+same_message k T id msg few =
+    ap (λ (b : Bool). refusal (size_checks k T ++ (7 when b ∷ 8 when eqb (row_of id table).nt 0 ∷ []))) (le-ltb 1 msg few)
 
 module _ (c : CollectSubframe) (h m : List ℕ) (n k T id : ℕ) (w : Walked) (e : WalkComplete c h m n k T id w) where
   abbrev s : State
   s = state c h m
 
   no_message : unjudged (answered (refusal (table_checks k T id (message_of s))) nothing) ≡ walk_complete s n k T id → NoMessage k T id w
-  no_message q = e ∙ sym q ∙ ap (λ (x : ℕ). unjudged (answered x nothing)) (same_message k T id c.subframe)
+  no_message q = e ∙ sym q ∙ ap (λ (x : ℕ). unjudged (answered x nothing)) (same_message k T id (message_of s) (omega arith))
 
   -- nothing, or a refusal, is shown
   shows_nothing : ShowsNone c h m n NothingShown → NoMessage k T id w

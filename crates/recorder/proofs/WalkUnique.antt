@@ -71,8 +71,8 @@ timing_tags m k T r s p q = sym (undo_timing r) ∙ ap back_timing (p ∙ sym q)
 walk : (m : List ℕ) (k T sender id msg : ℕ) → Agree (WalkSlots m k T sender id msg)
 walk m k T sender id msg r s p q = sym (undo_walk r) ∙ ap back_walk (p ∙ sym q) ∙ undo_walk s
 
-walk_complete_lem : (c : CollectSubframe) (hkroot mack : List ℕ) (satellite k T id : ℕ) → Agree (WalkComplete c hkroot mack satellite k T id)
-walk_complete_lem c hkroot mack satellite k T id r s p q = sym (undo_walk r) ∙ ap back_walk (p ∙ sym q) ∙ undo_walk s
+walk_complete : (c : CollectSubframe) (hkroot mack : List ℕ) (satellite k T id : ℕ) → Agree (WalkComplete c hkroot mack satellite k T id)
+walk_complete c hkroot mack satellite k T id r s p q = sym (undo_walk r) ∙ ap back_walk (p ∙ sym q) ∙ undo_walk s
 
 pub agreed : Agreed
-agreed = record { timing_tags = timing_tags; walk = walk; walk_complete_lem = walk_complete_lem }
+agreed = record { timing_tags = timing_tags; walk = walk; walk_complete = walk_complete }

@@ -8,4 +8,4 @@ use Rattle.recorder.specs.WalkPromises.{TimingTagsRead, WalkSlots, WalkComplete}
 pub record Agreed : Type 0 where
   pub timing_tags : (m : List ℕ) (k T : ℕ) → Agree (TimingTagsRead m k T)
   pub walk : (m : List ℕ) (k T sender id msg : ℕ) → Agree (WalkSlots m k T sender id msg)
-  pub walk_complete_lem : (c : CollectSubframe) (hkroot mack : List ℕ) (satellite k T id : ℕ) → Agree (WalkComplete c hkroot mack satellite k T id)
+  pub walk_complete : (c : CollectSubframe) (hkroot mack : List ℕ) (satellite k T id : ℕ) → Agree (WalkComplete c hkroot mack satellite k T id)

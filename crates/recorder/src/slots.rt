@@ -14,7 +14,7 @@ use layouts::tag_info::Adkd;
 use layouts::{mack, maclt};
 
 // The field of a tag that breaks its slot.
-#[derive(Drop)]
+#[derive(Clone, Copy)]
 pub enum TagField {
     Adkd,
     Prnd,
@@ -22,7 +22,7 @@ pub enum TagField {
 
 // All tags fit their slots; or the first that breaks its slot, and the field that broke it; or the table's nt and the message's, which differ, and no tag was
 // judged. `Nothing` says that there is no message to judge: `walk_complete` alone answers it.
-#[derive(Drop)]
+#[derive(Clone, Copy)]
 pub enum SlotsAnswer {
     AllFit,
     Breaks { tag: u8, field: TagField },
@@ -32,7 +32,7 @@ pub enum SlotsAnswer {
 }
 
 // One tag at its slot.
-#[derive(Drop)]
+#[derive(Clone, Copy)]
 pub(crate) enum SlotFit {
     Fits,
     Breaks(TagField),

@@ -10,7 +10,7 @@ use layouts::answer::Number;
 use layouts::mack;
 
 // How many tags are listed. `Nothing` says that there is no message: `walk_complete` alone answers it.
-#[derive(Drop)]
+#[derive(Clone, Copy)]
 pub enum TimingCount {
     Tags(u8),
     Nothing,
@@ -18,7 +18,7 @@ pub enum TimingCount {
 }
 
 // How many tags hold ADKD 4, or the refusal, beside their numbers: ascending, zeros behind.
-#[derive(Drop)]
+#[derive(Clone, Copy)]
 pub struct TimingTags {
     pub count: TimingCount,
     pub tags: [u8; 9],

@@ -15,7 +15,7 @@ use subframes::subframe;
 use subframes::subframe::{CollectSubframe, Message, SubframeAnswer};
 
 // The verdict on the slots, and beside it the tags that hold ADKD 4, whether or not the slots fit.
-#[derive(Drop)]
+#[derive(Clone, Copy)]
 pub struct Walked {
     pub slots: SlotsAnswer,
     pub timing: TimingTags,
