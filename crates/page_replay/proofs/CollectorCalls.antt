@@ -1,6 +1,6 @@
 -- Pages and blocks that are fed one by one are a history of the collector's own calls.
 -- Assumes nothing.
-use Prim.Native.Nat.{ℕ, ◌+◌, ◌-◌}
+use Prim.Native.Nat.{ℕ}
 use mathlib.Core.Path.{◌≡◌, ap, subst, subst⁻¹}
 use mathlib.Core.List.{List, [], ◌∷◌, ◌++◌, append-nil, append_assoc}
 use Rattle.layouts.specs.Answer.{Answer}
@@ -19,7 +19,6 @@ use Rattle.dsms.specs.declared.dsm.CollectDsm.{CollectDsm}
 use Rattle.dsms.proofs.DsmHistory.{any_calls}
 use Rattle.dsms.proofs.DsmUnique.{back_state as back_dsm}
 use Rattle.dsms.specs.DsmRecovery.{Call as Block, fed_to, after as after_blocks}
-use Rattle.page_replay.specs.ReplayPromises.{state}
 
 -- Every answer of the subframe collector's definition is one of its code's, so that each page is a call.
 page_called : {c : CollectSubframe} {h m : List ℕ} {qs : List Page} → SubframeHistory c h m qs → (p : Page)

@@ -22,7 +22,6 @@ use Rattle.dsms.specs.DsmRecovery.{Call as Block, is_admitted as is_admitted_blo
 use Rattle.page_replay.specs.Replay.{Time, later, Dsm, State, Run, start, hkroot_of, subframes_in, silent_in, dsms_in, passed_on, fed_hkroot, skipped, counted}
 use Rattle.page_replay.specs.Replay.{fed_page, fed, page_step, and_then, replayed}
 use Rattle.page_replay.specs.Pieces.{followed_by}
-use Rattle.page_replay.specs.ReplayPromises.{state}
 use Rattle.page_replay.specs.ReplayHistory.{fed_as, fed_from, blocks_in, blocks_from, times_from, subframes_from, silent_from, dsms_from, block_in}
 use Rattle.page_replay.proofs.PageFold.{later_weeks, later_week}
 use Rattle.page_replay.proofs.PagePieces.{split_anywhere}

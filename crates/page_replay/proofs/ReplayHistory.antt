@@ -13,8 +13,8 @@ use borrow.Author.Tests.{ltb-true, ltb-false}
 use Rattle.layouts.specs.Answer.{Answer, refused, gives, refusal}
 use Rattle.layouts.proofs.Answers.{none_fails}
 use Rattle.layouts.specs.Gst.{svn_gst_checks}
-use Rattle.subframes.specs.Subframe.{Page, State as Subframes, new as new_subframes, used}
-use Rattle.subframes.specs.SubframePromises.{call, state as subframe_state}
+use Rattle.subframes.specs.Subframe.{Page, State as Subframes, new as new_subframes}
+use Rattle.subframes.specs.SubframePromises.{state as subframe_state}
 use Rattle.subframes.specs.SubframeHistory.{History as SubframeHistory, begun as pages_begun}
 use Rattle.subframes.proofs.SubframeUnique.{back_state as back_collector}
 use Rattle.subframes.proofs.SubframeHistory.{code_recovers as pages_recover}

@@ -18,7 +18,7 @@ use subframes::subframe;
 use subframes::subframe::{CollectSubframe, SubframeAnswer, SubframeFed, WordAnswer};
 
 // What pages made of a replay, and what they completed.
-#[derive(Drop)]
+#[derive(Clone, Copy)]
 pub(crate) struct Stepped {
     pub replay: PageReplay,
     pub subframe: SubframeDone,

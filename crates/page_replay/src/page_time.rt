@@ -3,7 +3,7 @@ ghost use Rattle.std.specs.Prelude.{◌≡◌, ◌≤◌};
 ghost use Rattle.page_replay.specs.Replay.{Time, later as later_of};
 
 // The time of a page.
-#[derive(Drop)]
+#[derive(Clone, Copy)]
 pub(crate) struct PageTime {
     pub week: u16,
     pub time: u32,

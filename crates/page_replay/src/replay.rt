@@ -17,7 +17,7 @@ use subframes::subframe;
 use subframes::subframe::{CollectSubframe, Message, SubframeShown};
 
 // A running replay: satellite, week and time of the next page, the two collectors' records, and the totals so far.
-#[derive(Drop)]
+#[derive(Clone, Copy)]
 pub struct PageReplay {
     pub satellite: u8,
     pub week: u16,
@@ -33,39 +33,39 @@ pub struct PageReplay {
     pub silent: u64,
 }
 
-#[derive(Drop)]
+#[derive(Clone, Copy)]
 pub enum Begun {
     Refused(u8),
     Ready,
 }
 
-#[derive(Drop)]
+#[derive(Clone, Copy)]
 pub struct NewReplay {
     pub replay: PageReplay,
     pub answer: Begun,
 }
 
 // The subframe that was completed, with its time.
-#[derive(Drop)]
+#[derive(Clone, Copy)]
 pub enum SubframeDone {
     None,
     Subframe { week: u16, time: u32 },
 }
 
 // The DSM that was completed, and how many bytes it has.
-#[derive(Drop)]
+#[derive(Clone, Copy)]
 pub enum DsmDone {
     None,
     Dsm { id: u8, bytes: usize },
 }
 
-#[derive(Drop)]
+#[derive(Clone, Copy)]
 pub enum ReplayAnswer {
     Refused(u8),
     Consumed(usize),
 }
 
-#[derive(Drop)]
+#[derive(Clone, Copy)]
 pub struct Replayed {
     pub replay: PageReplay,
     pub answer: ReplayAnswer,
