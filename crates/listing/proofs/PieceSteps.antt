@@ -10,7 +10,7 @@ use lib.ListN.{length, take, drop, length-append, length-drop}
 use lib.Seq.{length-take-le, take_at}
 use lib.Dec.{ltb, leb, eqb}
 use borrow.Author.Tests.{lt-ltb, le-ltb, ne_eqb, eqb-true, eqb-false}
-use Rattle.layouts.specs.Answer.{Answer, refused, nothing, gives, ◌when◌, refusal}
+use Rattle.layouts.specs.Answer.{Answer, refused, gives, ◌when◌, refusal}
 use Rattle.layouts.specs.Gst.{svn_gst_checks}
 use Rattle.layouts.specs.Lists.{put}
 use Rattle.layouts.proofs.Answers.{stopped, went_on, converse, answer_of}

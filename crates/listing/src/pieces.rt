@@ -17,7 +17,7 @@ use texts::put::words;
 
 // A listing between two calls: the page replay, and the bytes of a page that is not whole yet. Once it is over, since the arguments were refused, nothing more
 // is written.
-#[derive(Drop)]
+#[derive(Clone, Copy)]
 pub struct Listing {
     pub replay: PageReplay,
     pub page: [u8; 30],
@@ -26,13 +26,13 @@ pub struct Listing {
 }
 
 // How many bytes of the piece were taken, and how many were written to the lent output, from its start on.
-#[derive(Drop)]
+#[derive(Clone, Copy)]
 pub enum ListingAnswer {
     Refused(u8),
     Told { taken: usize, written: usize },
 }
 
-#[derive(Drop)]
+#[derive(Clone, Copy)]
 pub struct ListingStep {
     pub listing: Listing,
     pub answer: ListingAnswer,
