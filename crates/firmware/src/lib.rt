@@ -1,5 +1,7 @@
 // The readers and the look-up table for C. include/osnma.h declares these functions and is their manual.
 // Each returns the refusal number, 0 for none, and writes its results only then. Every number comes in as a u64.
+#![tactic(auto)]
+
 mod bits;
 mod header;
 mod kroot;

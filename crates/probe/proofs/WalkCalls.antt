@@ -18,9 +18,9 @@ use Rattle.probe.specs.declared.subframe.SubframeRecord.{SubframeRecord}
 use Rattle.probe.specs.declared.walks.WalkTold.{WalkTold}
 
 -- both parts, each by what it tells
-pub walk_told_lem : (x : Walked) {s t : Told} → s ≡ told (rp.meaning_slots x.slots) → t ≡ told (rp.meaning_count x.timing.count)
+pub both_told : (x : Walked) {s t : Told} → s ≡ told (rp.meaning_slots x.slots) → t ≡ told (rp.meaning_count x.timing.count)
     → ◌≡◌ {A = WalkTold} (record { slots = s; timing = t; tags = x.timing.tags }) (walk_told (rp.meaning_walk x))
-walk_told_lem x {t = t} es et =
+both_told x {t = t} es et =
     ap (λ (y : Told). record { slots = y; timing = t; tags = x.timing.tags }) es
     ∙ ap (λ (y : Told). record { slots = told (rp.meaning_slots x.slots); timing = y; tags = x.timing.tags }) et
 
@@ -28,12 +28,12 @@ pub walk_slots : (m : List ℕ) (k T sender id msg : ℕ) (x : Walked) {r : Walk
     → rp.WalkSlots m k T sender id msg x → r ≡ walk_told (rp.meaning_walk x) → pk.WalkSlots m k T sender id msg r
 walk_slots m k T sender id msg x p e = e ∙ ap walk_told p
 
-pub walk_complete_lem : (c : SubframeRecord) (h m : List ℕ) (satellite k T id : ℕ) {f : CollectSubframe} (x : Walked) {r : WalkTold}
+pub complete_told : (c : SubframeRecord) (h m : List ℕ) (satellite k T id : ℕ) {f : CollectSubframe} (x : Walked) {r : WalkTold}
     → f ≡ collector_of c → rp.WalkComplete f h m satellite k T id x → r ≡ walk_told (rp.meaning_walk x)
     → pk.WalkComplete c h m satellite k T id r
-walk_complete_lem c h m satellite k T id x ef p e =
+complete_told c h m satellite k T id x ef p e =
     e ∙ ap walk_told p ∙ ap (λ (y : CollectSubframe). walk_told (walk_complete (state y h m) satellite k T id)) ef
 
-pub timing_told_lem : (m : List ℕ) (k T : ℕ) (x : TimingTags) {t : Told} → rp.TimingTagsRead m k T x → t ≡ told (rp.meaning_count x.count)
+pub tags_told : (m : List ℕ) (k T : ℕ) (x : TimingTags) {t : Told} → rp.TimingTagsRead m k T x → t ≡ told (rp.meaning_count x.count)
     → pk.TimingTagsRead m k T (record { timing = t; tags = x.tags })
-timing_told_lem m k T x p et = ap (λ (y : Told). record { timing = y; tags = x.tags }) et ∙ ap timing_told p
+tags_told m k T x p et = ap (λ (y : Told). record { timing = y; tags = x.tags }) et ∙ ap timing_told p

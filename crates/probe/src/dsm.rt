@@ -7,7 +7,7 @@ use crate::tell::Told;
 use dsms::dsm::CollectDsm;
 
 #[repr(C)]
-#[derive(Drop)]
+#[derive(Clone, Copy)]
 pub struct DsmRecord {
     pub id: u8,
     pub came: bool,
@@ -16,7 +16,7 @@ pub struct DsmRecord {
 }
 
 #[repr(C)]
-#[derive(Drop)]
+#[derive(Clone, Copy)]
 pub struct DsmCalled {
     pub collector: DsmRecord,
     pub answer: Told,

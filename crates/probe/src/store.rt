@@ -7,7 +7,7 @@ use crate::tell::Told;
 use storage::mack_storage::MackStorage;
 
 #[repr(C)]
-#[derive(Drop)]
+#[derive(Clone, Copy)]
 pub struct StoreRecord {
     pub current: u8,
     pub timed: [bool; 12],
@@ -19,7 +19,7 @@ pub struct StoreRecord {
 }
 
 #[repr(C)]
-#[derive(Drop)]
+#[derive(Clone, Copy)]
 pub struct StoreCalled {
     pub storage: StoreRecord,
     pub answer: Told,
@@ -85,7 +85,7 @@ pub extern "C" fn probe_store_store(
     status: u8,
 ) -> StoreCalled
     ensures { StoreStore storage memory.old
-        (record { message = message.entry.now; asked = record { satellite = satellite; week = week; time = time }; status = status })
+        (record { message = message.now; asked = record { satellite = satellite; week = week; time = time }; status = status })
         result memory.new }
 {
     let before = storage_of(storage);

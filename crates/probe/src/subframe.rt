@@ -8,7 +8,7 @@ use crate::tell::Told;
 use subframes::subframe::{CollectSubframe, Message, WordCount};
 
 #[repr(C)]
-#[derive(Drop)]
+#[derive(Clone, Copy)]
 pub struct SubframeRecord {
     pub week: u16,
     pub subframe: u16,
@@ -16,14 +16,14 @@ pub struct SubframeRecord {
 }
 
 #[repr(C)]
-#[derive(Drop)]
+#[derive(Clone, Copy)]
 pub struct SubframeCalled {
     pub collector: SubframeRecord,
     pub answer: Told,
 }
 
 #[repr(C)]
-#[derive(Drop)]
+#[derive(Clone, Copy)]
 pub struct SubframeTraced {
     pub collector: SubframeRecord,
     pub answer: Told,
@@ -31,14 +31,14 @@ pub struct SubframeTraced {
 }
 
 #[repr(C)]
-#[derive(Drop)]
+#[derive(Clone, Copy)]
 pub struct HkrootTold {
     pub answer: Told,
     pub bytes: [u8; 15],
 }
 
 #[repr(C)]
-#[derive(Drop)]
+#[derive(Clone, Copy)]
 pub struct WordTold {
     pub next: u64,
     pub answer: Told,

@@ -18,7 +18,7 @@ use transmitter::blocks::BlockHeader;
 
 // Kind 0 is nothing, 1 an answer with at most three numbers, zeros behind them, 2 a refusal with its number first.
 #[repr(C)]
-#[derive(Drop)]
+#[derive(Clone, Copy)]
 pub struct Told {
     pub kind: u64,
     pub first: u64,

@@ -9,7 +9,7 @@ use crate::{subframe, tell};
 use recorder::walk::Walked;
 
 #[repr(C)]
-#[derive(Drop)]
+#[derive(Clone, Copy)]
 pub struct WalkTold {
     pub slots: Told,
     pub timing: Told,
@@ -17,7 +17,7 @@ pub struct WalkTold {
 }
 
 #[repr(C)]
-#[derive(Drop)]
+#[derive(Clone, Copy)]
 pub struct TimingTold {
     pub timing: Told,
     pub tags: [u8; 9],

@@ -10,7 +10,7 @@ use transmitter::kroot::{KrootRead, KrootValues};
 use transmitter::pkr::{PkrRead, PkrValues};
 
 #[repr(C)]
-#[derive(Drop)]
+#[derive(Clone, Copy)]
 pub struct KrootRecord {
     pub nb_dk: u64,
     pub pkid: u64,
@@ -26,7 +26,7 @@ pub struct KrootRecord {
 }
 
 #[repr(C)]
-#[derive(Drop)]
+#[derive(Clone, Copy)]
 pub struct PkrRecord {
     pub nb_dp: u64,
     pub mid: u64,
@@ -35,21 +35,21 @@ pub struct PkrRecord {
 }
 
 #[repr(C)]
-#[derive(Drop)]
+#[derive(Clone, Copy)]
 pub struct BlockCalled {
     pub bytes: [u8; 13],
     pub answer: Told,
 }
 
 #[repr(C)]
-#[derive(Drop)]
+#[derive(Clone, Copy)]
 pub struct KrootCalled {
     pub values: KrootRecord,
     pub answer: Told,
 }
 
 #[repr(C)]
-#[derive(Drop)]
+#[derive(Clone, Copy)]
 pub struct PkrCalled {
     pub values: PkrRecord,
     pub answer: Told,
