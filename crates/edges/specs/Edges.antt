@@ -18,8 +18,8 @@ pub data Asked : Type 0 where
   word : ℕ → Asked
   subframe : ℕ → Asked
   -- the blocks of a KROOT or PKR message with that count in its first half byte
-  kroot_count_lem : ℕ → Asked
-  pkr_count_lem : ℕ → Asked
+  kroot_count : ℕ → Asked
+  pkr_count : ℕ → Asked
   -- the number of tags for a key size k in bytes and a tag size T in bits
   tags : ℕ → ℕ → Asked
   -- for k and T, the key of a MACK message whose ones are 8 k bits from that bit on: it is all ones exactly if the key starts there
@@ -49,8 +49,8 @@ pkr c type = 16 * c ∷ replicate 128 0 ++ (16 * type ∷ replicate 39 0)
 abbrev pub answer : Asked → Answer
 answer (word tow) = gives (word_of tow ∷ [])
 answer (subframe tow) = gives (subframe_of tow ∷ [])
-answer (kroot_count_lem c) = read_size (the "NB_DK" kroot_layout) (size kroot_blocks) (16 * c ∷ [])
-answer (pkr_count_lem c) = read_size (the "NB_DP" pkr_layout) (size pkr_blocks) (16 * c ∷ [])
+answer (kroot_count c) = read_size (the "NB_DK" kroot_layout) (size kroot_blocks) (16 * c ∷ [])
+answer (pkr_count c) = read_size (the "NB_DP" pkr_layout) (size pkr_blocks) (16 * c ∷ [])
 answer (tags k T) = answered (refusal (size_checks k T)) (gives (nt k T ∷ []))
 answer (key_at k T first) = gives (key_copied (ones first (first + 8 * k) 60) k T (output k)).bytes
 answer (curve code len) = ecdsa_function (0 ∷ 0 ∷ 16 * code ∷ replicate (len - 3) 0)
@@ -92,8 +92,8 @@ edges =
     edge "P1 tow 604799: word 14, subframe 20159." (word 604799 ⇒ is 14 ∷ subframe 604799 ⇒ is 20159 ∷ []) ∷
     edge "P2 tow 0 and 1: word 0." (word 0 ⇒ is 0 ∷ word 1 ⇒ is 0 ∷ []) ∷
     edge "P3 tow 30: word 0, subframe 1." (word 30 ⇒ is 0 ∷ subframe 30 ⇒ is 1 ∷ []) ∷
-    edge "P4 KROOT counts 0 and 9: none; 8: 14." (kroot_count_lem 0 ⇒ none ∷ kroot_count_lem 9 ⇒ none ∷ kroot_count_lem 8 ⇒ is 14 ∷ []) ∷
-    edge "P5 PKR 6 and 11: none; 10: 16." (pkr_count_lem 6 ⇒ none ∷ pkr_count_lem 11 ⇒ none ∷ pkr_count_lem 10 ⇒ is 16 ∷ []) ∷
+    edge "P4 KROOT counts 0 and 9: none; 8: 14." (kroot_count 0 ⇒ none ∷ kroot_count 9 ⇒ none ∷ kroot_count 8 ⇒ is 14 ∷ []) ∷
+    edge "P5 PKR 6 and 11: none; 10: 16." (pkr_count 6 ⇒ none ∷ pkr_count 11 ⇒ none ∷ pkr_count 10 ⇒ is 16 ∷ []) ∷
     edge "P6 K 128, T 40: nt 6, key at bit 336." (tags (128 / 8) 40 ⇒ is 6 ∷ key_at (128 / 8) 40 336 ⇒ all_ones ∷ []) ∷
     edge "P7 K 128, T 20: nt 9, key at bit 324." (tags (128 / 8) 20 ⇒ is 9 ∷ key_at (128 / 8) 20 324 ⇒ all_ones ∷ []) ∷
     edge "P8 K 96, T 20: nt 10." (tags (96 / 8) 20 ⇒ is 10 ∷ []) ∷

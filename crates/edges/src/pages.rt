@@ -3,7 +3,7 @@ use page_replay::replay;
 use page_replay::replay::{DsmDone, PageReplay, ReplayAnswer, Replayed, SubframeDone};
 
 // What a run came to: its record, the last subframe and the last DSM, and how many calls were not answered with 1.
-#[derive(Drop)]
+#[derive(Clone, Copy)]
 pub(crate) struct Seen {
     pub record: PageReplay,
     pub week: u16,

@@ -2,8 +2,10 @@
 use crate::print;
 use page_replay::replay;
 use page_replay::replay::{Begun, PageReplay, ReplayAnswer};
+use std::io;
 
-fn told(
+fn told<R: Print>(
+    rt: &R,
     name: &[u8],
     record: PageReplay,
     hkroot: &mut [u8],
@@ -11,13 +13,14 @@ fn told(
     dsm: &mut [u8],
     pages: &[u8],
     budget: usize,
-) {
+) -> io::Result<()> {
     let done = replay::replay(record, hkroot, mack, dsm, pages, budget);
     let answer = done.answer;
     match answer {
-        ReplayAnswer::Refused(n) => print::call(name, n, 0),
-        ReplayAnswer::Consumed(n) => print::call(name, 0, n),
+        ReplayAnswer::Refused(n) => print::call(rt, name, n, 0)?,
+        ReplayAnswer::Consumed(n) => print::call(rt, name, 0, n)?,
     }
+    Ok(())
 }
 
 fn fresh() -> PageReplay {
@@ -26,11 +29,12 @@ fn fresh() -> PageReplay {
 }
 
 // A call with these bytes of pages.
-fn bytes(name: &[u8], pages: &[u8], budget: usize) {
+fn bytes<R: Print>(rt: &R, name: &[u8], pages: &[u8], budget: usize) -> io::Result<()> {
     let mut hkroot = [0u8; 540];
     let mut mack = [0u8; 2160];
     let mut dsm = [0u8; 208];
     told(
+        rt,
         name,
         fresh(),
         &mut hkroot,
@@ -38,19 +42,30 @@ fn bytes(name: &[u8], pages: &[u8], budget: usize) {
         &mut dsm,
         pages,
         budget,
-    );
+    )?;
+    Ok(())
 }
 
 // A call with that record, a page and a budget of 1.
-fn record(name: &[u8], record: PageReplay) {
+fn record<R: Print>(rt: &R, name: &[u8], record: PageReplay) -> io::Result<()> {
     let mut hkroot = [0u8; 540];
     let mut mack = [0u8; 2160];
     let mut dsm = [0u8; 208];
     let pages = [0u8; 30];
-    told(name, record, &mut hkroot, &mut mack, &mut dsm, &pages, 1);
+    told(
+        rt,
+        name,
+        record,
+        &mut hkroot,
+        &mut mack,
+        &mut dsm,
+        &pages,
+        1,
+    )?;
+    Ok(())
 }
 
-fn lengths() {
+fn lengths<R: Print>(rt: &R) -> io::Result<()> {
     let mut hkroot = [0u8; 540];
     let mut mack = [0u8; 2160];
     let mut dsm = [0u8; 208];
@@ -59,6 +74,7 @@ fn lengths() {
     let mut short_dsm = [0u8; 207];
     let pages = [0u8; 30];
     told(
+        rt,
         b"539 HKROOT bytes",
         fresh(),
         &mut short_hkroot,
@@ -66,8 +82,9 @@ fn lengths() {
         &mut dsm,
         &pages,
         1,
-    );
+    )?;
     told(
+        rt,
         b"2,161 MACK bytes",
         fresh(),
         &mut hkroot,
@@ -75,8 +92,9 @@ fn lengths() {
         &mut dsm,
         &pages,
         1,
-    );
+    )?;
     told(
+        rt,
         b"207 DSM bytes, and a budget of 16",
         fresh(),
         &mut hkroot,
@@ -84,72 +102,79 @@ fn lengths() {
         &mut short_dsm,
         &pages,
         16,
-    );
+    )?;
+    Ok(())
 }
 
-fn totals() {
+fn totals<R: Print>(rt: &R) -> io::Result<()> {
     let mut a = fresh();
     a.pages = 4611686018427387904;
-    record(b"2^62 pages", a);
+    record(rt, b"2^62 pages", a)?;
     a.pages = 4611686018427387905;
-    record(b"more than 2^62 pages", a);
+    record(rt, b"more than 2^62 pages", a)?;
     let mut b = fresh();
     b.dsms_done = 18446744073709551615;
-    record(b"2^64 - 1 DSMs", b);
+    record(rt, b"2^64 - 1 DSMs", b)?;
     let mut c = fresh();
     c.silent = 4611686018427387905;
-    record(b"more than 2^62 silent subframes", c);
+    record(rt, b"more than 2^62 silent subframes", c)?;
+    Ok(())
 }
 
-fn ranges() {
+fn ranges<R: Print>(rt: &R) -> io::Result<()> {
     let mut a = fresh();
     a.satellite = 37;
-    record(b"satellite 37 in the record", a);
+    record(rt, b"satellite 37 in the record", a)?;
     let mut b = fresh();
     b.week = 4096;
-    record(b"week 4,096 in the record", b);
+    record(rt, b"week 4,096 in the record", b)?;
     let mut c = fresh();
     c.time = 604800;
-    record(b"time 604,800 in the record", c);
+    record(rt, b"time 604,800 in the record", c)?;
+    Ok(())
 }
 
-fn begun(name: &[u8], satellite: u8, week: u16, time: u32) {
+fn begun<R: Print>(rt: &R, name: &[u8], satellite: u8, week: u16, time: u32) -> io::Result<()> {
     let begun = replay::new(satellite, week, time);
     let answer = begun.answer;
     match answer {
-        Begun::Refused(n) => print::call(name, n, 0),
-        Begun::Ready => print::call(name, 0, 0),
+        Begun::Refused(n) => print::call(rt, name, n, 0)?,
+        Begun::Ready => print::call(rt, name, 0, 0)?,
     }
+    Ok(())
 }
 
-fn starts() {
-    begun(b"satellite 0", 0, 4096, 604800);
-    begun(b"satellite 37", 37, 4096, 604800);
-    begun(b"week 4,096", 36, 4096, 604800);
-    begun(b"time 604,800", 36, 4095, 604800);
-    begun(b"the last second", 36, 4095, 604799);
+fn starts<R: Print>(rt: &R) -> io::Result<()> {
+    begun(rt, b"satellite 0", 0, 4096, 604800)?;
+    begun(rt, b"satellite 37", 37, 4096, 604800)?;
+    begun(rt, b"week 4,096", 36, 4096, 604800)?;
+    begun(rt, b"time 604,800", 36, 4095, 604800)?;
+    begun(rt, b"the last second", 36, 4095, 604799)?;
+    Ok(())
 }
 
-fn pages() {
+fn pages<R: Print>(rt: &R) -> io::Result<()> {
     let some = [0u8; 29];
-    bytes(b"29 bytes", &some, 15);
+    bytes(rt, b"29 bytes", &some, 15)?;
     let one = [0u8; 31];
-    bytes(b"31 bytes", &one, 15);
+    bytes(rt, b"31 bytes", &one, 15)?;
     let fourteen = [0u8; 449];
-    bytes(b"449 bytes", &fourteen, 15);
+    bytes(rt, b"449 bytes", &fourteen, 15)?;
     let fifteen = [0u8; 450];
-    bytes(b"450 bytes", &fifteen, 15);
+    bytes(rt, b"450 bytes", &fifteen, 15)?;
     let sixteen = [0u8; 480];
-    bytes(b"480 bytes", &sixteen, 15);
-    bytes(b"480 bytes, budget 3", &sixteen, 3);
-    bytes(b"480 bytes, budget 0", &sixteen, 0);
-    bytes(b"480 bytes, budget 16", &sixteen, 16);
+    bytes(rt, b"480 bytes", &sixteen, 15)?;
+    bytes(rt, b"480 bytes, budget 3", &sixteen, 3)?;
+    bytes(rt, b"480 bytes, budget 0", &sixteen, 0)?;
+    bytes(rt, b"480 bytes, budget 16", &sixteen, 16)?;
+    Ok(())
 }
 
-pub(crate) fn all() {
-    pages();
-    lengths();
-    totals();
-    ranges();
-    starts();
+pub(crate) fn all<R: Print>(rt: &R) -> io::Result<()> {
+    pages(rt)?;
+    lengths(rt)?;
+    totals(rt)?;
+    ranges(rt)?;
+    starts(rt)?;
+    Ok(())
 }

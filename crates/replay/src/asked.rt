@@ -1,8 +1,10 @@
 // The program's arguments.
-ghost use Rattle.std.specs.Prelude.{◌≡◌, length};
+ghost use Rattle.std.specs.Prelude.{◌≡◌, ◌≤◌, OnOk, IfOk, length};
 
+use crate::failure::Failure;
+use crate::job;
 use crate::job::Done;
-use crate::{job, say};
+use std::env::{Env, FillError};
 
 // Room for any argument that Linux on x86-64 hands over: it has at most 131,071 bytes.
 fn space() -> [u8; 131072]
@@ -12,34 +14,41 @@ fn space() -> [u8; 131072]
 }
 
 // How many there are beside the program's own name.
-fn count() -> usize {
-    let all = os::arg_count();
-    if all == 0 {
-        return 0;
+fn count<R: Env>(rt: &R) -> usize {
+    let mut room = [0u8; 1];
+    for i in 1..usize::MAX {
+        if let Err(FillError::NotPresent) = rt.arg(i, &mut room) {
+            return i - 1;
+        }
     }
-    all - 1
+    usize::MAX - 1
 }
 
-fn is_whole() -> bool {
-    os::errno() != libc::ENAMETOOLONG
+// An argument's bytes, none where it is missing. One that does not fit its space cannot be read.
+fn bytes<'a, R: Env>(rt: &R, i: usize, space: &'a mut [u8]) -> Result<&'a [u8], Failure> {
+    let view: &mut [u8] = space;
+    match rt.arg(i, view) {
+        Ok(n) => Ok(&view[..n]),
+        Err(FillError::NotPresent) => Ok(&[]),
+        Err(FillError::TooLong) => Err(Failure::TooLong),
+    }
 }
 
-// What the arguments ask for. One that does not fit its space cannot be read.
-pub(crate) fn begun(out: &mut [u8]) -> Done {
-    let many = count();
-    let mut satellite = space();
-    let a = os::arg(1, &mut satellite);
-    let first = is_whole();
-    let mut week = space();
-    let b = os::arg(2, &mut week);
-    let second = is_whole();
-    let mut time = space();
-    let c = os::arg(3, &mut time);
-    let third = is_whole();
-    let begun = job::begin(many, &satellite[..a], &week[..b], &time[..c], out);
-    if many == 3 && !(first && second && third) {
-        say::too_long();
-        return job::stopped(begun);
+// What three arguments ask for.
+fn three<R: Env>(rt: &R, out: &mut [u8]) -> Result<Done, Failure> {
+    let mut a = space();
+    let satellite = bytes(rt, 1, &mut a)?;
+    let mut b = space();
+    let week = bytes(rt, 2, &mut b)?;
+    let mut c = space();
+    let time = bytes(rt, 3, &mut c)?;
+    job::begin(3, satellite, week, time, out)
+}
+
+// What the arguments ask for. Where there are not three, it does not matter what they are.
+pub(crate) fn begun<R: Env>(rt: &R, out: &mut [u8]) -> Result<Done, Failure> {
+    match count(rt) {
+        3 => three(rt, out),
+        many => job::begin(many, &[], &[], &[], out),
     }
-    begun
 }

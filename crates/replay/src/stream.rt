@@ -1,15 +1,16 @@
 // Standard input, read to its end in pieces of whatever sizes it comes in; what the job makes of them goes to standard output.
-ghost use Rattle.std.specs.Prelude.{◌≡◌, ◌≤◌, length};
-ghost use Rattle.io.specs.Counts.{IsPrefixLen};
+ghost use Rattle.std.specs.Prelude.{◌≡◌, ◌≤◌, IfOk, length, take};
 
+use crate::failure::Failure;
+use crate::job;
 use crate::job::Done;
-use crate::{job, say};
 use layouts::numbers::smaller;
-use libc::{STDIN_FILENO, STDOUT_FILENO};
+use std::io;
+use std::io::{Read, Write};
 
 // How many of the bytes, and never more than there are.
 fn within(many: usize, bytes: &[u8]) -> usize
-    ensures { IsPrefixLen result bytes.now }
+    ensures { (result ≤ length bytes.now) × (result ≡ length (take result bytes.now)) }
 {
     if many < bytes.len() {
         return many;
@@ -17,91 +18,105 @@ fn within(many: usize, bytes: &[u8]) -> usize
     bytes.len()
 }
 
-// Writes what a call of the job put into its room. The job stops where that fails.
-fn told(job: Done, out: &[u8]) -> Done {
+// Writes what a call of the job put into its room.
+fn told<R: Print>(rt: &R, job: Done, out: &[u8]) -> Result<Done, Failure> {
     let n = within(job.written, out);
-    if io::write_all(STDOUT_FILENO, &out[..n]) {
-        return job;
+    match io::writer(rt).write_all(&out[..n]) {
+        Ok(()) => Ok(job),
+        Err(error) => Err(Failure::Unwritable(error)),
     }
-    say::unwritable();
-    job::stopped(job)
 }
 
 // One call of the job, which takes no more than there is.
-fn step(
+fn step<R: Print>(
+    rt: &R,
     job: Done,
     hkroot: &mut [u8],
     mack: &mut [u8],
     dsm: &mut [u8],
     rest: &[u8],
     out: &mut [u8],
-) -> Done
-    ensures { result.taken ≤ length rest.now }
+) -> Result<Done, Failure>
+    ensures { IfOk result (λ done. done.taken ≤ length rest.now) }
 {
-    let fed = job::feed(job, hkroot, mack, dsm, rest, out);
-    let mut next = told(fed, out);
+    let fed = job::feed(job, hkroot, mack, dsm, rest, out)?;
+    let mut next = told(rt, fed, out)?;
     next.taken = smaller(next.taken, rest.len());
-    next
+    Ok(next)
 }
 
 // One piece, call by call, until it is used up.
-fn piece(
+fn piece<R: Print>(
+    rt: &R,
     job: Done,
     hkroot: &mut [u8],
     mack: &mut [u8],
     dsm: &mut [u8],
     piece: &[u8],
     out: &mut [u8],
-) -> Done {
+) -> Result<Done, Failure> {
     let mut job = job;
     let mut left = piece.len();
     while 0 < left {
         let at = piece.len() - left;
-        job = step(job, hkroot, mack, dsm, &piece[at..], out);
+        job = step(rt, job, hkroot, mack, dsm, &piece[at..], out)?;
         if job.taken == 0 {
-            return job;
+            return Ok(job);
         }
         left -= job.taken;
     }
-    job
+    Ok(job)
 }
 
-fn turn(job: Done, hkroot: &mut [u8], mack: &mut [u8], dsm: &mut [u8], out: &mut [u8]) -> Done {
-    let mut buf = io::large_buffer();
-    let got = libc::read(STDIN_FILENO, &mut buf);
-    if got < 0 {
-        say::unreadable();
-        return job::stopped(job);
-    }
-    if got == 0 {
-        let last = job::finish(job, hkroot, mack, dsm, out);
-        return job::stopped(told(last, out));
-    }
-    let n = io::count(got, &buf);
-    piece(job, hkroot, mack, dsm, &buf[..n], out)
-}
-
-// A loop has to end, and nothing says that the input does: the turns are counted down from a number that no run uses up.
-fn each(job: Done, hkroot: &mut [u8], mack: &mut [u8], dsm: &mut [u8], out: &mut [u8]) {
-    let mut job = job;
-    let mut turns = u64::MAX;
-    while 0 < turns {
-        job = turn(job, hkroot, mack, dsm, out);
-        if !job.more {
-            return;
+// What one reading gives; at the end of the input the job's last call. Whether there may be more to do is in what it answers.
+fn turn<R: Input + Print>(
+    rt: &R,
+    job: Done,
+    hkroot: &mut [u8],
+    mack: &mut [u8],
+    dsm: &mut [u8],
+    out: &mut [u8],
+) -> Result<Done, Failure> {
+    let mut buf = [0u8; 65536];
+    match rt.reader().read(&mut buf) {
+        Err(error) => Err(Failure::Unreadable(error)),
+        Ok(0) => {
+            let last = job::finish(job, hkroot, mack, dsm, out)?;
+            let mut ended = told(rt, last, out)?;
+            ended.more = false;
+            Ok(ended)
         }
-        turns -= 1;
+        Ok(n) => piece(rt, job, hkroot, mack, dsm, &buf[..n], out),
     }
-    say::endless();
+}
+
+// A loop has to end, and nothing says that the input does: the turns are counted up to a number that no run reaches.
+fn each<R: Input + Print>(
+    rt: &R,
+    job: Done,
+    hkroot: &mut [u8],
+    mack: &mut [u8],
+    dsm: &mut [u8],
+    out: &mut [u8],
+) -> Result<(), Failure> {
+    let mut job = job;
+    for _ in 0..u64::MAX {
+        job = turn(rt, job, hkroot, mack, dsm, out)?;
+        if !job.more {
+            return Ok(());
+        }
+    }
+    Err(Failure::Endless)
 }
 
 // All of it, from what the job said at its beginning. Nothing is read where that was all.
-pub(crate) fn run(begun: Done, out: &mut [u8]) {
+pub(crate) fn run<R: Input + Print>(rt: &R, begun: Done, out: &mut [u8]) -> Result<(), Failure> {
     let mut hkroot = [0u8; 540];
     let mut mack = [0u8; 2160];
     let mut dsm = [0u8; 208];
-    let job = told(begun, out);
+    let job = told(rt, begun, out)?;
     if job.more {
-        each(job, &mut hkroot, &mut mack, &mut dsm, out);
+        return each(rt, job, &mut hkroot, &mut mack, &mut dsm, out);
     }
+    Ok(())
 }

@@ -3,11 +3,12 @@ use crate::{print, tally};
 use dsms::dsm;
 use dsms::dsm::{CollectDsm, DsmAnswer};
 use layouts::dsm_header::DsmType;
+use std::io;
 use transmitter::answer::WriteAnswer;
 use transmitter::blocks;
 use transmitter::blocks::{BlockCut, BlockHeader};
 
-#[derive(Drop)]
+#[derive(Clone, Copy)]
 struct Fed {
     pub collector: CollectDsm,
     pub calls: u64,
@@ -121,15 +122,16 @@ fn feed(collector: CollectDsm, lent: &mut [u8], sent: &[u8], wrote: WriteAnswer,
 }
 
 // All blocks fed, and a line's words about it.
-pub(crate) fn told(
+pub(crate) fn told<R: Print>(
+    rt: &R,
     collector: CollectDsm,
     lent: &mut [u8],
     sent: &[u8],
     wrote: WriteAnswer,
     id: u64,
-) -> CollectDsm {
+) -> io::Result<CollectDsm> {
     let fed = feed(collector, lent, sent, wrote, id);
-    print::number(b", nothing ", fed.nothing);
-    print::number(b" times, complete at call ", fed.complete);
-    fed.collector
+    print::number(rt, b", nothing ", fed.nothing)?;
+    print::number(rt, b" times, complete at call ", fed.complete)?;
+    Ok(fed.collector)
 }

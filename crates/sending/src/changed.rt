@@ -4,6 +4,7 @@ use dsms::dsm;
 use dsms::dsm::CollectDsm;
 use layouts::answer::Number;
 use layouts::dsm_kroot;
+use std::io;
 use transmitter::answer::WriteAnswer;
 use transmitter::kroot::{KrootRead, KrootValues, kroot_values, write_kroot};
 
@@ -32,26 +33,28 @@ fn changed(sent: &mut [u8], id: u64, msg: &[u8]) -> WriteAnswer {
 }
 
 // The week as the collector's message has it.
-fn week(msg: &[u8]) {
+fn week<R: Print>(rt: &R, msg: &[u8]) -> io::Result<()> {
     match dsm_kroot::kroot_wn(msg) {
-        Number::Refused(n) => print::number(b", refused ", n as u64),
-        Number::Value(week) => print::number(b", week ", week),
+        Number::Refused(n) => print::number(rt, b", refused ", n as u64)?,
+        Number::Value(week) => print::number(rt, b", week ", week)?,
     }
+    Ok(())
 }
 
 // The message fed, and what the collector then shows of it.
-fn told(
+fn told<R: Print>(
+    rt: &R,
     collector: CollectDsm,
     lent: &mut [u8],
     sent: &[u8],
     wrote: WriteAnswer,
     id: u64,
-) -> CollectDsm {
-    print::number(b"id ", id);
-    print::wrote(wrote);
-    let next = blocks::told(collector, lent, sent, wrote, id);
-    week(dsm::view(next, lent));
-    next
+) -> io::Result<CollectDsm> {
+    print::number(rt, b"id ", id)?;
+    print::wrote(rt, wrote)?;
+    let next = blocks::told(rt, collector, lent, sent, wrote, id)?;
+    week(rt, dsm::view(next, lent))?;
+    Ok(next)
 }
 
 // Whether the two differ in the week's bytes alone.
@@ -63,27 +66,35 @@ fn is_else_same(old: &[u8], new: &[u8]) -> bool {
 }
 
 // The recording with the next week, fed to the collector that has the recording.
-fn sent_again(collector: CollectDsm, lent: &mut [u8], old: &[u8]) {
+fn sent_again<R: Print>(
+    rt: &R,
+    collector: CollectDsm,
+    lent: &mut [u8],
+    old: &[u8],
+) -> io::Result<()> {
     let mut before = contents::BEFORE;
     let new: &mut [u8] = &mut before;
     let wrote = changed(new, 9, dsm::view(collector, lent));
-    print::text(b"sent again ");
-    told(collector, lent, new, wrote, 9);
+    print::text(rt, b"sent again ")?;
+    told(rt, collector, lent, new, wrote, 9)?;
     print::held(
+        rt,
         is_else_same(old, new),
         b", all else the same\n",
         b", more changed\n",
-    );
+    )?;
+    Ok(())
 }
 
-pub(crate) fn all() {
+pub(crate) fn all<R: Print>(rt: &R) -> io::Result<()> {
     let mut before = contents::BEFORE;
     let sent: &mut [u8] = &mut before;
     let mut zeros = [0u8; 208];
     let lent: &mut [u8] = &mut zeros;
     let wrote = kroot::recorded(sent, 4);
-    print::text(b"recorded ");
-    let collector = told(dsm::new(), lent, sent, wrote, 4);
-    print::text(b"\n");
-    sent_again(collector, lent, sent);
+    print::text(rt, b"recorded ")?;
+    let collector = told(rt, dsm::new(), lent, sent, wrote, 4)?;
+    print::text(rt, b"\n")?;
+    sent_again(rt, collector, lent, sent)?;
+    Ok(())
 }

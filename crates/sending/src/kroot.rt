@@ -3,6 +3,7 @@ use crate::{blocks, contents, print, tally};
 use dsms::dsm;
 use layouts::dsm_kroot::{EcdsaFunction, EcdsaFunctionAnswer};
 use layouts::{bits, dsm_kroot};
+use std::io;
 use transmitter::answer::WriteAnswer;
 use transmitter::kroot;
 use transmitter::kroot::{KrootRead, KrootValues};
@@ -61,14 +62,15 @@ fn parts(msg: &[u8], key: &[u8], signature: &[u8], padding: &[u8]) -> u64 {
     tally::bytes(n, dsm_kroot::padding(msg), padding)
 }
 
-fn curve(msg: &[u8]) {
+fn curve<R: Print>(rt: &R, msg: &[u8]) -> io::Result<()> {
     match dsm_kroot::ecdsa_function(msg) {
-        EcdsaFunctionAnswer::Refused(n) => print::number(b", no curve ", n as u64),
+        EcdsaFunctionAnswer::Refused(n) => print::number(rt, b", no curve ", n as u64)?,
         EcdsaFunctionAnswer::Function(f) => match f {
-            EcdsaFunction::P256Sha256 => print::text(b", P-256"),
-            EcdsaFunction::P521Sha512 => print::text(b", P-521"),
+            EcdsaFunction::P256Sha256 => print::text(rt, b", P-256")?,
+            EcdsaFunction::P521Sha512 => print::text(rt, b", P-521")?,
         },
     }
+    Ok(())
 }
 
 // Whether writing what is read of the message makes the same of the lent bytes.
@@ -90,26 +92,42 @@ fn is_again(msg: &[u8], id: u64, sent: &[u8]) -> bool {
     }
 }
 
-fn read(msg: &[u8], v: KrootValues, key: &[u8], signature: &[u8], padding: &[u8]) {
-    curve(msg);
+fn read<R: Print>(
+    rt: &R,
+    msg: &[u8],
+    v: KrootValues,
+    key: &[u8],
+    signature: &[u8],
+    padding: &[u8],
+) -> io::Result<()> {
+    curve(rt, msg)?;
     let count = numbers(msg, v);
     let read = parts(msg, key, signature, padding);
-    print::read(fields(msg, v, key.len()), count, read);
+    print::read(rt, fields(msg, v, key.len()), count, read)?;
+    Ok(())
 }
 
 // The rest of a line whose beginning stands.
-pub(crate) fn sent(id: u64, v: KrootValues, key: &[u8], signature: &[u8], padding: &[u8]) {
+pub(crate) fn sent<R: Print>(
+    rt: &R,
+    id: u64,
+    v: KrootValues,
+    key: &[u8],
+    signature: &[u8],
+    padding: &[u8],
+) -> io::Result<()> {
     let mut before = contents::BEFORE;
     let sent: &mut [u8] = &mut before;
     let wrote = kroot::write_kroot(sent, id, v, key, signature, padding);
-    print::wrote(wrote);
+    print::wrote(rt, wrote)?;
     let mut zeros = [0u8; 208];
     let lent: &mut [u8] = &mut zeros;
-    let collector = blocks::told(dsm::new(), lent, sent, wrote, id);
+    let collector = blocks::told(rt, dsm::new(), lent, sent, wrote, id)?;
     let shown = dsm::view(collector, lent);
-    read(shown, v, key, signature, padding);
+    read(rt, shown, v, key, signature, padding)?;
     let many = blocks::length(wrote);
-    print::end(shown, is_again(shown, id, sent), sent, many);
+    print::end(rt, shown, is_again(shown, id, sent), sent, many)?;
+    Ok(())
 }
 
 // A message of 8 blocks, for a bench that has it from a recording.

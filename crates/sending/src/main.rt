@@ -2,6 +2,9 @@
 // each; then the published PKR, a recording with another week, and what is refused. The file `stdout` has what request 1 of document
 // 02 makes of it. In a line, `fields` and `parts` are those that the readers of `layouts` gave back, `numbers` those of the
 // transmitter's own reader, and `same again` says that writing all of these gave the same 208 bytes.
+
+#![tactic(auto)]
+
 mod blocks;
 mod changed;
 mod contents;
@@ -15,12 +18,15 @@ mod refused_pkr;
 mod shapes;
 mod tally;
 
-fn main() {
-    shapes::kroots();
-    shapes::pkrs();
-    published::all();
-    changed::all();
-    refused_kroot::all();
-    refused_pkr::all();
-    refused_blocks::all();
+use std::io;
+
+fn main(rt: HostRuntime) -> io::Result<()> {
+    shapes::kroots(&rt)?;
+    shapes::pkrs(&rt)?;
+    published::all(&rt)?;
+    changed::all(&rt)?;
+    refused_kroot::all(&rt)?;
+    refused_pkr::all(&rt)?;
+    refused_blocks::all(&rt)?;
+    Ok(())
 }

@@ -3,6 +3,7 @@ use crate::{blocks, contents, print, tally};
 use dsms::dsm;
 use dsms::dsm::CollectDsm;
 use layouts::dsm_pkr;
+use std::io;
 use texts::put;
 use transmitter::pkr;
 use transmitter::pkr::{PkrRead, PkrValues};
@@ -74,29 +75,38 @@ fn is_again(msg: &[u8], id: u64, sent: &[u8]) -> bool {
     }
 }
 
-fn read(msg: &[u8], v: PkrValues, four: &[u8], key: &[u8], padding: &[u8]) {
+fn read<R: Print>(
+    rt: &R,
+    msg: &[u8],
+    v: PkrValues,
+    four: &[u8],
+    key: &[u8],
+    padding: &[u8],
+) -> io::Result<()> {
     let count = numbers(msg, v);
     let read = parts(msg, four, key, padding);
-    print::read(fields(msg, v, key.len()), count, read);
+    print::read(rt, fields(msg, v, key.len()), count, read)?;
+    Ok(())
 }
 
 // The rest of a line whose beginning stands. The collector is lent those bytes.
-pub(crate) fn sent(
+pub(crate) fn sent<R: Print>(
+    rt: &R,
     lent: &mut [u8],
     id: u64,
     v: PkrValues,
     four: &[u8],
     key: &[u8],
     padding: &[u8],
-) -> CollectDsm {
+) -> io::Result<CollectDsm> {
     let mut before = contents::BEFORE;
     let sent: &mut [u8] = &mut before;
     let wrote = pkr::write_pkr(sent, id, v, four, key, padding);
-    print::wrote(wrote);
-    let collector = blocks::told(dsm::new(), lent, sent, wrote, id);
+    print::wrote(rt, wrote)?;
+    let collector = blocks::told(rt, dsm::new(), lent, sent, wrote, id)?;
     let shown = dsm::view(collector, lent);
-    read(shown, v, four, key, padding);
+    read(rt, shown, v, four, key, padding)?;
     let many = blocks::length(wrote);
-    print::end(shown, is_again(shown, id, sent), sent, many);
-    collector
+    print::end(rt, shown, is_again(shown, id, sent), sent, many)?;
+    Ok(collector)
 }

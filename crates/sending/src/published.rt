@@ -2,6 +2,7 @@
 use crate::{contents, pkr, print};
 use dsms::dsm;
 use layouts::dsm_pkr;
+use std::io;
 use texts::put::End;
 use texts::{hexadecimal, put};
 use transmitter::pkr::PkrValues;
@@ -18,20 +19,26 @@ const LEAF: [u8; 68] = *b"120303B2CE64BC207BDD8BC4DF859187FCB686320D63FFA091410F
 const PADDING: [u8; 12] = *b"A1B2C3D4E5F6";
 
 // The leaf that the reader shows, and whether it is the published one.
-fn leaf(msg: &[u8]) {
+fn leaf<R: Print>(rt: &R, msg: &[u8]) -> io::Result<()> {
     let bytes = dsm_pkr::merkle_tree_leaf(msg);
     let mut out = [0u8; 160];
-    print::text(b"leaf ");
+    print::text(rt, b"leaf ")?;
     match put::hexadecimal(&mut out, 0, bytes) {
-        End::Refused(n) => print::number(b"refused ", n as u64),
-        End::At(n) => print::text(contents::first(&out, n)),
+        End::Refused(n) => print::number(rt, b"refused ", n as u64)?,
+        End::At(n) => print::text(rt, contents::first(&out, n))?,
     }
     let is_published = hexadecimal::spells(&LEAF, bytes);
-    print::held(is_published, b", as published\n", b", not as published\n");
+    print::held(
+        rt,
+        is_published,
+        b", as published\n",
+        b", not as published\n",
+    )?;
+    Ok(())
 }
 
 // The message sent, and the leaf of what the collector shows.
-fn sent(nodes: &[u8], key: &[u8], padding: &[u8]) {
+fn sent<R: Print>(rt: &R, nodes: &[u8], key: &[u8], padding: &[u8]) -> io::Result<()> {
     let v = PkrValues {
         nb_dp: 7,
         mid: 1,
@@ -40,17 +47,19 @@ fn sent(nodes: &[u8], key: &[u8], padding: &[u8]) {
     };
     let mut zeros = [0u8; 208];
     let lent: &mut [u8] = &mut zeros;
-    print::text(b"published PKR id 12");
-    let collector = pkr::sent(lent, 12, v, nodes, key, padding);
-    leaf(dsm::view(collector, lent));
+    print::text(rt, b"published PKR id 12")?;
+    let collector = pkr::sent(rt, lent, 12, v, nodes, key, padding)?;
+    leaf(rt, dsm::view(collector, lent))?;
+    Ok(())
 }
 
-pub(crate) fn all() {
+pub(crate) fn all<R: Print>(rt: &R) -> io::Result<()> {
     let mut nodes = [0u8; 128];
     let mut key = [0u8; 33];
     let mut padding = [0u8; 6];
     hexadecimal::read(&mut nodes, 0, &NODES);
     hexadecimal::read(&mut key, 0, &KEY);
     hexadecimal::read(&mut padding, 0, &PADDING);
-    sent(&nodes, &key, &padding);
+    sent(rt, &nodes, &key, &padding)?;
+    Ok(())
 }

@@ -1,7 +1,11 @@
 // The Adler-32 checksum of a file. It shows a change of the bytes of a message that no recorded field reads.
+use crate::records;
 use layouts::numbers;
+use std::fs::Files;
+use std::io::Read;
+use std::{fs, io};
 
-#[derive(Drop)]
+#[derive(Clone, Copy)]
 struct Sum {
     a: u64,
     b: u64,
@@ -26,13 +30,13 @@ fn added(s: Sum, bytes: &[u8]) -> Sum {
 }
 
 // The sum with what one read gives; `more` says whether it gave any.
-fn turn(fd: i32, s: Sum) -> Sum {
-    let mut buf = io::buffer();
-    let n = io::read_full(fd, &mut buf);
-    added(s, &buf[..n])
+fn turn<F: Read>(file: &mut F, s: Sum) -> io::Result<Sum> {
+    let mut buf = [0u8; 4096];
+    let n = records::read_full(file, &mut buf)?;
+    Ok(added(s, &buf[..n]))
 }
 
-fn each(fd: i32) -> Sum {
+fn each<F: Read>(file: &mut F) -> io::Result<Sum> {
     let mut s = Sum {
         a: 1,
         b: 0,
@@ -40,22 +44,22 @@ fn each(fd: i32) -> Sum {
     };
     let mut turns: u64 = 1000000;
     while 0 < turns {
-        s = turn(fd, s);
+        s = turn(file, s)?;
         if !s.more {
-            return s;
+            return Ok(s);
         }
         turns -= 1;
     }
-    s
+    Ok(s)
 }
 
 // 0 where the file cannot be opened, which is no checksum of any file.
-pub(crate) fn of_file(path: &[u8]) -> u64 {
-    let fd = os::open_read(path);
-    if fd < 0 {
-        return 0;
+pub(crate) fn of_file<R: Files>(rt: &R, path: &str) -> io::Result<u64> {
+    match fs::open(rt, path) {
+        Err(_) => Ok(0),
+        Ok(mut file) => {
+            let s = each(&mut file)?;
+            Ok(s.b % 65521 * 65536 + s.a % 65521)
+        }
     }
-    let s = each(fd);
-    libc::close(fd);
-    s.b % 65521 * 65536 + s.a % 65521
 }

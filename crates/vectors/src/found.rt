@@ -3,7 +3,7 @@ ghost use Rattle.std.specs.Prelude.{◌≡◌, true, take, drop};
 
 use layouts::answer::{Number, Part};
 
-#[derive(Drop)]
+#[derive(Clone, Copy)]
 pub(crate) struct Found {
     // 0 for none.
     pub refusal: u8,

@@ -1,5 +1,8 @@
 // Holds `layouts` and `recorder` to the recorded answers of the Rust, in the file answers.bin, and to published values, set into messages of our
 // own making, and the collectors and the store to its recorded sequences of calls, in the file sequences.bin.
+
+#![tactic(auto)]
+
 mod checksum;
 mod found;
 mod print;
@@ -20,10 +23,13 @@ mod sequence_calls;
 mod sequences;
 mod tally;
 
-fn main() {
-    print::checksum(checksum::of_file(b"answers.bin"));
-    print::summary(recorded::all(b"answers.bin"));
-    print::published_summary(published::all());
-    print::sequences_checksum(checksum::of_file(b"sequences.bin"));
-    print::sequences_summary(sequences::all(b"sequences.bin"));
+use std::io;
+
+fn main(rt: HostRuntime) -> io::Result<()> {
+    print::checksum(&rt, checksum::of_file(&rt, "answers.bin")?)?;
+    print::summary(&rt, recorded::all(&rt, "answers.bin")?)?;
+    print::published_summary(&rt, published::all(&rt)?)?;
+    print::sequences_checksum(&rt, checksum::of_file(&rt, "sequences.bin")?)?;
+    print::sequences_summary(&rt, sequences::all(&rt, "sequences.bin")?)?;
+    Ok(())
 }

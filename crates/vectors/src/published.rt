@@ -3,29 +3,42 @@
 use crate::tally::Tally;
 use crate::{found, print, published_kroot, published_mack, published_pkr, published_slots, tally};
 use layouts::answer::Number;
+use std::io;
 use texts::hexadecimal;
 
 // One check more, with a line where it fails.
-pub(crate) fn held(name: &[u8], fits: bool, t: Tally) -> Tally {
+pub(crate) fn held<R: Print>(rt: &R, name: &[u8], fits: bool, t: Tally) -> io::Result<Tally> {
     let t = t.record(0);
     if fits {
-        return t;
+        return Ok(t);
     }
-    print::published(name);
-    t.difference()
+    print::published(rt, name)?;
+    Ok(t.difference())
 }
 
-pub(crate) fn number(name: &[u8], answer: Number, expected: u64, t: Tally) -> Tally {
-    held(name, found::is(found::number(answer), expected), t)
+pub(crate) fn number<R: Print>(
+    rt: &R,
+    name: &[u8],
+    answer: Number,
+    expected: u64,
+    t: Tally,
+) -> io::Result<Tally> {
+    held(rt, name, found::is(found::number(answer), expected), t)
 }
 
-pub(crate) fn bytes(name: &[u8], answer: &[u8], text: &[u8], t: Tally) -> Tally {
-    held(name, hexadecimal::spells(text, answer), t)
+pub(crate) fn bytes<R: Print>(
+    rt: &R,
+    name: &[u8],
+    answer: &[u8],
+    text: &[u8],
+    t: Tally,
+) -> io::Result<Tally> {
+    held(rt, name, hexadecimal::spells(text, answer), t)
 }
 
-pub(crate) fn all() -> Tally {
-    let t = published_pkr::checks(tally::none());
-    let t = published_kroot::checks(t);
-    let t = published_mack::checks(t);
-    published_slots::checks(t)
+pub(crate) fn all<R: Print>(rt: &R) -> io::Result<Tally> {
+    let t = published_pkr::checks(rt, tally::none())?;
+    let t = published_kroot::checks(rt, t)?;
+    let t = published_mack::checks(rt, t)?;
+    published_slots::checks(rt, t)
 }

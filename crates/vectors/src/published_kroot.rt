@@ -2,6 +2,7 @@
 use crate::published;
 use crate::tally::Tally;
 use layouts::dsm_kroot;
+use std::io;
 use texts::hexadecimal;
 
 const ROOT_KEY: [u8; 32] = *b"5BF8C9CBFCF70422081475FD445DF0FF";
@@ -13,12 +14,18 @@ const MESSAGE: [u8; 58] = *b"2000491B04E000\
     5BF8C9CBFCF70422081475FD445DF0FF";
 
 // The signature of 64 bytes and the padding of 11 behind the root key are zeros.
-pub(crate) fn checks(t: Tally) -> Tally {
+pub(crate) fn checks<R: Print>(rt: &R, t: Tally) -> io::Result<Tally> {
     let mut msg = [0u8; 104];
     let view: &mut [u8] = &mut msg;
     hexadecimal::read(view, 0, &MESSAGE);
-    let t = published::number(b"A.5.2 key size", dsm_kroot::key_size(view), 16, t);
-    let t = published::number(b"A.5.2 week", dsm_kroot::kroot_wn(view), 1248, t);
-    let t = published::number(b"A.5.2 alpha", dsm_kroot::alpha(view), 0x610BDF26D77B, t);
-    published::bytes(b"A.5.2 root key", dsm_kroot::kroot(view), &ROOT_KEY, t)
+    let t = published::number(rt, b"A.5.2 key size", dsm_kroot::key_size(view), 16, t)?;
+    let t = published::number(rt, b"A.5.2 week", dsm_kroot::kroot_wn(view), 1248, t)?;
+    let t = published::number(
+        rt,
+        b"A.5.2 alpha",
+        dsm_kroot::alpha(view),
+        0x610BDF26D77B,
+        t,
+    )?;
+    published::bytes(rt, b"A.5.2 root key", dsm_kroot::kroot(view), &ROOT_KEY, t)
 }

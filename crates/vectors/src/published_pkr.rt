@@ -2,6 +2,7 @@
 use crate::tally::Tally;
 use crate::{found, published, recorded_pkr};
 use layouts::dsm_pkr;
+use std::io;
 use texts::hexadecimal;
 
 const NODE_0: [u8; 64] = *b"7CBE05D9970CFC9E22D0A43A340EF557624453A2E821AADEAC989C405D78BA06";
@@ -30,52 +31,68 @@ const MESSAGE: [u8; 338] = *b"71\
     0303B2CE64BC207BDD8BC4DF859187FCB686320D63FFA091410FC158FBB77980EA\
     A1B2C3D4E5F6";
 
-fn node(name: &[u8], msg: &[u8], n: usize, text: &[u8], t: Tally) -> Tally {
+fn node<R: Print>(
+    rt: &R,
+    name: &[u8],
+    msg: &[u8],
+    n: usize,
+    text: &[u8],
+    t: Tally,
+) -> io::Result<Tally> {
     let node = dsm_pkr::intermediate_tree_node(msg, n);
     let bytes = node.bytes;
-    published::bytes(name, &bytes, text, t)
+    published::bytes(rt, name, &bytes, text, t)
 }
 
-fn nodes(msg: &[u8], t: Tally) -> Tally {
-    let t = node(b"A.7 tree node 0", msg, 0, &NODE_0, t);
-    let t = node(b"A.7 tree node 1", msg, 1, &NODE_1, t);
-    let t = node(b"A.7 tree node 2", msg, 2, &NODE_2, t);
-    node(b"A.7 tree node 3", msg, 3, &NODE_3, t)
+fn nodes<R: Print>(rt: &R, msg: &[u8], t: Tally) -> io::Result<Tally> {
+    let t = node(rt, b"A.7 tree node 0", msg, 0, &NODE_0, t)?;
+    let t = node(rt, b"A.7 tree node 1", msg, 1, &NODE_1, t)?;
+    let t = node(rt, b"A.7 tree node 2", msg, 2, &NODE_2, t)?;
+    node(rt, b"A.7 tree node 3", msg, 3, &NODE_3, t)
 }
 
-fn numbers(msg: &[u8], t: Tally) -> Tally {
+fn numbers<R: Print>(rt: &R, msg: &[u8], t: Tally) -> io::Result<Tally> {
     let t = published::number(
+        rt,
         b"A.7 number of blocks",
         dsm_pkr::number_of_blocks(msg),
         13,
         t,
-    );
-    let t = published::number(b"A.7 message ID", dsm_pkr::message_id(msg), 1, t);
+    )?;
+    let t = published::number(rt, b"A.7 message ID", dsm_pkr::message_id(msg), 1, t)?;
     let t = published::held(
+        rt,
         b"A.7 key type",
         found::is(recorded_pkr::key_type(msg), 1),
         t,
-    );
-    let t = published::number(b"A.7 key ID", dsm_pkr::new_public_key_id(msg), 2, t);
-    published::number(b"A.7 key size", dsm_pkr::key_size(msg), 33, t)
+    )?;
+    let t = published::number(rt, b"A.7 key ID", dsm_pkr::new_public_key_id(msg), 2, t)?;
+    published::number(rt, b"A.7 key size", dsm_pkr::key_size(msg), 33, t)
 }
 
-fn parts(msg: &[u8], t: Tally) -> Tally {
-    let t = published::bytes(b"A.7 new public key", dsm_pkr::new_public_key(msg), &KEY, t);
+fn parts<R: Print>(rt: &R, msg: &[u8], t: Tally) -> io::Result<Tally> {
     let t = published::bytes(
+        rt,
+        b"A.7 new public key",
+        dsm_pkr::new_public_key(msg),
+        &KEY,
+        t,
+    )?;
+    let t = published::bytes(
+        rt,
         b"A.7 Merkle tree leaf",
         dsm_pkr::merkle_tree_leaf(msg),
         &LEAF,
         t,
-    );
-    published::bytes(b"A.7 padding", dsm_pkr::padding(msg), &PADDING, t)
+    )?;
+    published::bytes(rt, b"A.7 padding", dsm_pkr::padding(msg), &PADDING, t)
 }
 
-pub(crate) fn checks(t: Tally) -> Tally {
+pub(crate) fn checks<R: Print>(rt: &R, t: Tally) -> io::Result<Tally> {
     let mut msg = [0u8; 169];
     let view: &mut [u8] = &mut msg;
     hexadecimal::read(view, 0, &MESSAGE);
-    let t = numbers(view, t);
-    let t = nodes(view, t);
-    parts(view, t)
+    let t = numbers(rt, view, t)?;
+    let t = nodes(rt, view, t)?;
+    parts(rt, view, t)
 }

@@ -5,6 +5,7 @@ use crate::{published, published_mack};
 use recorder::slots::{SlotsAnswer, TagField};
 use recorder::timing::{TimingCount, TimingTags};
 use recorder::walk;
+use std::io;
 use texts::hexadecimal;
 
 // The tags that are not published, of our own making: satellites 7, 19 and the sender itself at 00E, the sender at 12S.
@@ -46,28 +47,28 @@ fn listed(timing: TimingTags) -> bool {
 
 // The published tag carries the sender's number where document 02 asks for 255 (docs/DIFFERENCES.md): it breaks its slot. It is listed
 // all the same.
-fn printed(msg: &[u8], t: Tally) -> Tally {
+fn printed<R: Print>(rt: &R, msg: &[u8], t: Tally) -> io::Result<Tally> {
     let walked = walk::walk(msg, 16, 40, 2, 27, 1);
     let slots = walked.slots;
     let timing = walked.timing;
-    let t = published::held(b"A.6.5.1 PRND at 04S", breaks(slots), t);
-    published::held(b"A.6.5.1 list of ADKD 4", listed(timing), t)
+    let t = published::held(rt, b"A.6.5.1 PRND at 04S", breaks(slots), t)?;
+    published::held(rt, b"A.6.5.1 list of ADKD 4", listed(timing), t)
 }
 
 // With 255 in that place all tags fit, and the list is the same.
-fn with_255(msg: &[u8], t: Tally) -> Tally {
+fn with_255<R: Print>(rt: &R, msg: &[u8], t: Tally) -> io::Result<Tally> {
     let walked = walk::walk(msg, 16, 40, 2, 27, 1);
     let slots = walked.slots;
     let timing = walked.timing;
-    let t = published::held(b"A.6.5.1 with PRND 255", all_fit(slots), t);
-    published::held(b"A.6.5.1 list with PRND 255", listed(timing), t)
+    let t = published::held(rt, b"A.6.5.1 with PRND 255", all_fit(slots), t)?;
+    published::held(rt, b"A.6.5.1 list with PRND 255", listed(timing), t)
 }
 
-pub(crate) fn checks(t: Tally) -> Tally {
+pub(crate) fn checks<R: Print>(rt: &R, t: Tally) -> io::Result<Tally> {
     let mut msg = [0u8; 60];
     let view: &mut [u8] = &mut msg;
     build(view);
-    let t = printed(view, t);
+    let t = printed(rt, view, t)?;
     hexadecimal::read(view, 26, b"FF");
-    with_255(view, t)
+    with_255(rt, view, t)
 }

@@ -7,6 +7,9 @@ use crate::{
     recorded_table, records, tally,
 };
 use layouts::bits;
+use std::fs::Files;
+use std::io::Read;
+use std::{fs, io};
 
 // Whether `layouts` cannot be called: its headers and table IDs are single bytes, and the argument of the record is more.
 fn boundary_only(r: Record) -> bool {
@@ -94,76 +97,75 @@ fn found_by(r: Record, body: &[u8]) -> Found {
 }
 
 // The tally with one record more. Of those that differ only the first twenty are printed.
-fn judged(r: Record, body: &[u8], number: u64, t: Tally) -> Tally {
+fn judged<R: Print>(rt: &R, r: Record, body: &[u8], number: u64, t: Tally) -> io::Result<Tally> {
     let t = t.record(r.refusal);
     if boundary_only(r) {
-        return t.boundary_only();
+        return Ok(t.boundary_only());
     }
     let f = found_by(r, body);
     if records::agrees(r, f) {
-        return t;
+        return Ok(t);
     }
     if t.differ < 20 {
-        print::difference(number, r, f);
+        print::difference(rt, number, r, f)?;
     }
-    t.difference()
+    Ok(t.difference())
 }
 
 // The tally after a record, and whether there was one.
-#[derive(Drop)]
+#[derive(Clone, Copy)]
 struct Replayed {
     more: bool,
     tally: Tally,
 }
 
 // One record of the file, its number counted from 1 on.
-fn turn(fd: i32, number: u64, t: Tally) -> Replayed {
+fn turn<R: Print, F: Read>(rt: &R, file: &mut F, number: u64, t: Tally) -> io::Result<Replayed> {
     let mut body = [0u8; 510];
     let view: &mut [u8] = &mut body;
-    match records::take(fd, view) {
-        Next::End => Replayed {
+    match records::take(file, view)? {
+        Next::End => Ok(Replayed {
             more: false,
             tally: t,
-        },
+        }),
         Next::Cut => {
-            print::cut(number);
+            print::cut(rt, number)?;
             let tally = t.difference();
-            Replayed { more: false, tally }
+            Ok(Replayed { more: false, tally })
         }
         Next::Whole(r) => {
             if r.function == 100 {
                 recorded_slots::exchange(view, r.b);
             }
-            let tally = judged(in_bytes(r), view, number, t);
-            Replayed { more: true, tally }
+            let tally = judged(rt, in_bytes(r), view, number, t)?;
+            Ok(Replayed { more: true, tally })
         }
     }
 }
 
 // A loop has to end, and nothing says that a file does: a file of more than a million records counts as a difference.
-fn each(fd: i32) -> Tally {
+fn each<R: Print, F: Read>(rt: &R, file: &mut F) -> io::Result<Tally> {
     let mut t = tally::none();
     let mut number: u64 = 1;
     while number <= 1000000 {
-        let next = turn(fd, number, t);
+        let next = turn(rt, file, number, t)?;
         t = next.tally;
         if !next.more {
-            return t;
+            return Ok(t);
         }
         number += 1;
     }
-    print::endless();
-    t.difference()
+    print::endless(rt)?;
+    Ok(t.difference())
 }
 
 // All records of the file. One that cannot be opened is a difference.
-pub(crate) fn all(path: &[u8]) -> Tally {
-    let fd = os::open_read(path);
-    if fd < 0 {
-        print::missing(path);
-        return tally::none().difference();
+pub(crate) fn all<R: Print + Files>(rt: &R, path: &str) -> io::Result<Tally> {
+    match fs::open(rt, path) {
+        Ok(mut file) => each(rt, &mut file),
+        Err(_) => {
+            print::missing(rt, path.as_bytes())?;
+            Ok(tally::none().difference())
+        }
     }
-    let t = each(fd);
-    libc::close(fd);
-    t
 }

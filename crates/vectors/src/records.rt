@@ -1,11 +1,13 @@
 // The records of answers.bin, little endian: a head of 40 bytes, the message, the output.
-ghost use Rattle.std.specs.Prelude.{◌≡◌, true, ◌+◌, ◌*◌, ◌≤◌, ◌<◌};
+ghost use Rattle.std.specs.Prelude.{◌≡◌, true, ◌+◌, ◌*◌, ◌≤◌, ◌<◌, IfOk, length};
 ghost use Rattle.vectors.specs.inner.Little.{four_of};
 
 use crate::found::Found;
 use layouts::numbers::wide;
+use std::io;
+use std::io::Read;
 
-#[derive(Drop)]
+#[derive(Clone, Copy)]
 pub(crate) struct Record {
     pub function: u8,
     // The lengths of the message and of the output.
@@ -21,12 +23,27 @@ pub(crate) struct Record {
     pub v2: u64,
 }
 
-#[derive(Drop)]
+#[derive(Clone, Copy)]
 pub(crate) enum Next {
     Whole(Record),
     // The file ends inside a record.
     Cut,
     End,
+}
+
+// Reads until the bytes are full or the file ends; how many were read.
+pub(crate) fn read_full<F: Read>(file: &mut F, bytes: &mut [u8]) -> io::Result<usize>
+    ensures { IfOk result (λ n. n ≤ length bytes.new) }
+{
+    let mut many = 0;
+    while many < bytes.len() {
+        let more = file.read(&mut bytes[many..])?;
+        if more == 0 {
+            return Ok(many);
+        }
+        many += more;
+    }
+    Ok(many)
 }
 
 // The number of the four bytes from `at` on. `eight`: of eight.
@@ -65,24 +82,24 @@ fn read(head: &[u8; 40]) -> Record
 }
 
 // The next record of the file; its message and then its output stand at the start of `body`.
-pub(crate) fn take(fd: i32, body: &mut [u8]) -> Next {
+pub(crate) fn take<F: Read>(file: &mut F, body: &mut [u8]) -> io::Result<Next> {
     let mut head = [0u8; 40];
-    let got = io::read_full(fd, &mut head);
+    let got = read_full(file, &mut head)?;
     if got == 0 {
-        return Next::End;
+        return Ok(Next::End);
     }
     if got < 40 {
-        return Next::Cut;
+        return Ok(Next::Cut);
     }
     let r = read(&head);
     let n = r.mlen + r.olen;
     if body.len() < n {
-        return Next::Cut;
+        return Ok(Next::Cut);
     }
-    if io::read_full(fd, &mut body[0..n]) < n {
-        return Next::Cut;
+    if read_full(file, &mut body[0..n])? < n {
+        return Ok(Next::Cut);
     }
-    Next::Whole(r)
+    Ok(Next::Whole(r))
 }
 
 // Whether the answer is the recorded one.

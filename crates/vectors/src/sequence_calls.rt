@@ -7,14 +7,14 @@ use layouts::dsm_header::DsmType;
 use storage::mack_storage::{MackFound, MackStorage, StoreAnswer};
 use subframes::subframe::{CollectSubframe, Message, SubframeAnswer};
 
-#[derive(Drop)]
+#[derive(Clone, Copy)]
 pub(crate) struct Held {
     pub subframe: CollectSubframe,
     pub dsm: CollectDsm,
     pub storage: MackStorage,
 }
 
-#[derive(Drop)]
+#[derive(Clone, Copy)]
 pub(crate) struct Called {
     pub held: Held,
     pub found: Found,

@@ -1,6 +1,6 @@
 // Counts of what was compared.
 
-#[derive(Drop)]
+#[derive(Clone, Copy)]
 pub(crate) struct Tally {
     pub good: u64,
     pub refused: u64,
