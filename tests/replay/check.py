@@ -185,7 +185,7 @@ def samples(test):
     test.holds('the night completes a KROOT and a PKR', [b'D 2 104', b'D 12 169'], [l for l in night if l.startswith(b'D')])
     silence, silent = sample(test, 'silent')
     test.holds('the silent sample is the example of document 02', [b'pages 15 skipped 0 subframes 0 dsms 0 silent 1 tail 0'], silent)
-    test.holds('`rt check replay` runs the silent sample', (silence, silent),
+    test.holds('`rt ci` runs the silent sample', (silence, silent),
                (contents('crates', 'replay', 'stdin'), contents('crates', 'replay', 'stdout').splitlines()))
     readme = contents('README.md')
     for line in night[:2] + [b'D 2 104', b'D 12 169', night[-1]] + silent:

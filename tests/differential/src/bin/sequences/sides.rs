@@ -71,8 +71,8 @@ pub struct Sides {
     pub mack: Vec<u8>,
     /// Whether the Rust began with the same bytes: all are compared then, else those that a count reaches.
     pub alike: bool,
-    /// Week and subframe of the last page that the Rust was fed, and what it handed out since they changed.
-    at: (u16, u32),
+    /// The Rust's week and subframe, and what it handed out since they changed.
+    at: (u64, u64),
     pub out: Vec<Option<Handed>>,
 }
 
@@ -98,7 +98,8 @@ impl Sides {
             let svn = Svn::try_from(satellite).unwrap();
             rust.feed(bytes, svn, Gst::new(week, time)).map(|(h, m, gst)| (*h, *m, gst))
         })?;
-        let now = (week, time / 30);
+        self.fields.read(&self.rust);
+        let now = (self.fields.numbers[0], self.fields.numbers[1]);
         if std::mem::replace(&mut self.at, now) != now {
             self.out.fill(None);
         }
