@@ -6,62 +6,65 @@ use mathlib.Core.Path.{◌≡◌, refl, sym, ap, ◌∙◌, subst, subst⁻¹}
 use mathlib.Core.List.{List, [], ◌∷◌, ◌++◌, append-nil, append_assoc}
 use mathlib.Core.Bool.{Bool, true, false, cond, not, ◌&&◌}
 use lib.Dec.{ltb, eqb}
+use borrow.Author.Tests.{eqb-false}
 use lib.ListN.{length, replicate}
+use Rattle.std.specs.Prelude.{◌⊎◌, Ok, Err, Some, None}
+use Rattle.std.proofs.Common.{inl, inr}
+use Rattle.layouts.specs.declared.refusal.Refusal.TheVariants.{SliceLength}
 use Rattle.layouts.specs.Answer.{Answer, refused, nothing, gives, shown, refusal}
+use Rattle.layouts.specs.Refusals.{refusal_number}
 use Rattle.layouts.specs.Meaning.{meaning_type}
 use Rattle.layouts.specs.DsmHeader.{dsm_type_of}
 use Rattle.layouts.specs.Bits.{field, bit}
 use Rattle.layouts.specs.Lists.{all}
 use Rattle.layouts.specs.Sizes.{kroot_blocks}
-use Rattle.layouts.specs.declared.dsm_header.DsmType.TheVariants.{Kroot}
 use Rattle.dsms.specs.Dsm.{State, new, Fed, id_of, block_of, feed_checks, view_checks, begun as begun_at, stored, counted, count, whole, completed}
 use Rattle.dsms.specs.Dsm.{finished, taken, feed, view}
 use Rattle.dsms.specs.DsmPromises.{state, meaning_dsm, meaning_shown, FeedDsm, ViewDsm}
 use Rattle.dsms.specs.DsmView.{where_shown, shown_id, shown_type, kept, none, named_by}
 use Rattle.dsms.specs.DsmRecovery.{Call, is_admitted, fed_to, after, same_id, before, grown, run, fed, first_copy, first_copies, counts, is_whole, dsm_of}
 use Rattle.dsms.specs.DsmRecovery.{Alike, Recovers, run_id, Viewed}
-use Rattle.dsms.specs.DsmHistory.{Feeding, by_value, in_place, Misfit, History, begun, called, viewed, misfit, gave, FeedRecovers, Shows, MisfitViews}
+use Rattle.dsms.specs.DsmHistory.{Answered, seven, Feeding, by_value, in_place, Misfit, History, begun, called, viewed, misfit, gave, FeedRecovers, Shows, MisfitViews}
 use Rattle.dsms.specs.DsmHistory.{CodeRecovers, AnyCalls, sent, first_four, with_short, SmallestCase}
 use Rattle.dsms.specs.declared.dsm.CollectDsm.{CollectDsm}
-use Rattle.dsms.specs.declared.dsm.DsmAnswer.{DsmAnswer}
-use Rattle.dsms.specs.declared.dsm.DsmAnswer.TheVariants.{Refused, Nothing, Complete}
 use Rattle.dsms.specs.declared.dsm.DsmFed.{DsmFed}
 use Rattle.dsms.specs.declared.dsm_view.Dsm.{Dsm}
 use Rattle.runs.specs.Runs.{run_from}
-use Rattle.dsms.proofs.Blocks.{other_memory, feed_refused, view_memory, not_shown, shown_size}
+use Rattle.dsms.proofs.Blocks.{other_lent, feed_refused, view_memory, not_shown, shown_size}
 use Rattle.dsms.proofs.DsmRecovery.{dsm_recovers, dsm_shows}
+use Rattle.layouts.proofs.Back.{refusal_at}
 use Rattle.dsms.proofs.DsmUnique.{back_dsm, undo_dsm, back_shown, undo_shown, back_state}
 use Rattle.dsms.proofs.DsmViewUnique.{back_kind}
 use Rattle.dsms.proofs.Kept.{told_apart}
 
 -- An answer is the code's, if it means that.
-answer_back : (a b : DsmAnswer) → meaning_dsm a ≡ meaning_dsm b → a ≡ b
+answer_back : (a b : Answered) → meaning_dsm a ≡ meaning_dsm b → a ≡ b
 answer_back a b e = sym (undo_dsm a) ∙ ap back_dsm e ∙ undo_dsm b
 
 -- Either function gives what the definition gives.
-pub feeding_is : {c c' : CollectDsm} {x x' : List ℕ} {d : Call} {a : DsmAnswer} → Feeding c x d a c' x' → gave a c' x' ≡ fed_to (state c x) d
+pub feeding_is : {c c' : CollectDsm} {x x' : List ℕ} {d : Call} {a : Answered} → Feeding c x d a c' x' → gave a c' x' ≡ fed_to (state c x) d
 feeding_is (by_value d r x' e) = e
 feeding_is (in_place d a c' x' e) = e
 
 -- A call that gave a refusal and the same state.
-record Unchanged (c : CollectDsm) (x : List ℕ) (a : DsmAnswer) (c' : CollectDsm) (x' : List ℕ) : Type 0 where
-  answer : a ≡ Refused 1
+record Unchanged (c : CollectDsm) (x : List ℕ) (a : Answered) (c' : CollectDsm) (x' : List ℕ) : Type 0 where
+  answer : a ≡ Err SliceLength
   record_is : c' ≡ c
   memory_is : x' ≡ x
 
-unchanged : {c c' : CollectDsm} {x x' : List ℕ} {a : DsmAnswer} → gave a c' x' ≡ record { state = state c x; answer = refused 1 } → Unchanged c x a c' x'
+unchanged : {c c' : CollectDsm} {x x' : List ℕ} {a : Answered} → gave a c' x' ≡ record { state = state c x; answer = refused 1 } → Unchanged c x a c' x'
 unchanged {a = a} q =
     record {
-      answer = answer_back a (Refused 1) (ap (λ (f : Fed). f.answer) q);
+      answer = answer_back a (Err SliceLength) (ap (λ (f : Fed). f.answer) q);
       record_is = ap (λ (f : Fed). back_state f.state) q;
       memory_is = ap (λ (f : Fed). f.state.memory) q;
     }
 
 -- Lent bytes of another length: refused with 1.
-misfit_call : {c c' : CollectDsm} {x x' : List ℕ} {d : Call} {a : DsmAnswer} → Misfit x → Feeding c x d a c' x' → Unchanged c x a c' x'
+misfit_call : {c c' : CollectDsm} {x x' : List ℕ} {d : Call} {a : Answered} → Misfit x → Feeding c x d a c' x' → Unchanged c x a c' x'
 misfit_call {c} {x = x} {d = d} w call =
     unchanged (feeding_is call
-    ∙ sym (feed_refused (state c x) d.header d.block (other_memory c.id x d.block w) (λ z. absurd (omega (arith, z)))))
+    ∙ sym (feed_refused (state c x) d.header d.block (other_lent c.id x d.block w) (λ z. absurd (omega (arith, z)))))
 
 misfit_view : (c : CollectDsm) (x : List ℕ) → Misfit x → MisfitViews c x
 misfit_view c x w =
@@ -70,7 +73,7 @@ misfit_view c x w =
       view = λ bytes e. e ∙ sym (not_shown x v);
       view_shown = λ y e. sym (undo_shown y) ∙ ap back_shown (e ∙ sym v);
       view_dsm = λ d e. e ∙ (told_apart (state c x)).refused_none 1 (sym v);
-      view_answer = λ a e. answer_back a (Refused 1) (e ∙ ap (named_by (state c x)) (sym v));
+      view_answer = λ a e. answer_back a (Err SliceLength) (e ∙ ap (named_by (state c x)) (sym v));
     }
 
 -- One call more.
@@ -114,7 +117,7 @@ reached_recovers {s} {cs} w d f e =
     subst⁻¹ (λ (g : Fed). Recovers s (run cs) d g) e
     (subst⁻¹ (λ (t : State). Recovers t (run cs) d (fed_to t d)) w.is (dsm_recovers w.memory w.long cs d))
 
-feed_recovers : {c c' : CollectDsm} {memory memory' : List ℕ} {cs : List Call} {d : Call} {a : DsmAnswer}
+feed_recovers : {c c' : CollectDsm} {memory memory' : List ℕ} {cs : List Call} {d : Call} {a : Answered}
     → History c memory cs → Feeding c memory d a c' memory' → FeedRecovers c memory cs d a c' memory'
 feed_recovers {c} {c'} {memory} {memory'} {cs} {d} {a} k call =
     let f = gave a c' memory' in
@@ -199,13 +202,43 @@ unfolding taken
 taken_coded t n block =
     either_coded t.done (record { state = t; answer = nothing }) (finished (stored t n block)) refl (finished_coded (stored t n block))
 
+-- A number of the checks: none, or a refusal's.
+abbrev Numbered : ℕ → Type 0
+Numbered q = (q ≡ 0) ⊎ (refusal_number (refusal_at q) ≡ q)
+
+view_numbered : (id : ℕ) (m : List ℕ) → Numbered (refusal (view_checks id m))
+unfolding refusal
+view_numbered id m = go (not (eqb (length m) 208)) (ltb 15 id)
+  where
+    go : (x y : Bool) → Numbered (cond x 1 (cond y 12 0))
+    go true y = inr refl
+    go false true = inr refl
+    go false false = inl refl
+
+feed_numbered : (id : ℕ) (m b : List ℕ) → Numbered (refusal (feed_checks id m b))
+unfolding refusal
+feed_numbered id m b = go (not (eqb (length m) 208)) (not (eqb (length b) 13)) (ltb 15 id)
+  where
+    go : (x y z : Bool) → Numbered (cond x 1 (cond y 1 (cond z 12 0)))
+    go true y z = inr refl
+    go false true z = inr refl
+    go false false true = inr refl
+    go false false false = inl refl
+
+refusal_is : (q : ℕ) → Numbered q → eqb q 0 ≡ false → refused (refusal_number (refusal_at q)) ≡ refused q
+refusal_is q (inl z) e = absurd (eqb-false q 0 e z)
+refusal_is q (inr h) e = ap refused h
+
 fed_coded : (t : State) (d : Call) → Coded (fed_to t d).answer
 unfolding feed
 fed_coded t d =
     let q = refusal (feed_checks t.id t.memory d.block) in
     let u = begun_at t (id_of d.header) in
-    either_coded (eqb q 0) (taken u (block_of d.header) d.block) (record { state = t; answer = refused q })
-    (taken_coded u (block_of d.header) d.block) refl
+    go (eqb q 0) q (taken u (block_of d.header) d.block) refl (feed_numbered t.id t.memory d.block) (taken_coded u (block_of d.header) d.block)
+  where
+    go : (b : Bool) (q : ℕ) (f : Fed) → eqb q 0 ≡ b → Numbered q → Coded f.answer → Coded (cond b f (record { state = t; answer = refused q })).answer
+    go true q f e n c = c
+    go false q f e n c = refusal_is q n e
 
 -- So there is an answer to every call.
 any_feed : (c : CollectDsm) (memory : List ℕ) (d : Call) → (r : DsmFed) × (memory' : List ℕ) × FeedDsm c memory d.header d.block r memory'
@@ -216,19 +249,21 @@ any_feed c memory d =
 
 shown_coded : (s : State) → meaning_shown (back_shown (view s)) ≡ view s
 unfolding view
-shown_coded s = go (eqb (refusal (view_checks s.id s.memory)) 0) (s.done && not (eqb (count s) 0))
+shown_coded s =
+    let q = refusal (view_checks s.id s.memory) in
+    go q (eqb q 0) (s.done && not (eqb (count s) 0)) refl (view_numbered s.id s.memory)
   where
-    go : (a b : Bool)
-        → meaning_shown (back_shown (cond a (cond b (gives (0 ∷ 13 * count s ∷ [])) nothing) (refused (refusal (view_checks s.id s.memory)))))
-        ≡ cond a (cond b (gives (0 ∷ 13 * count s ∷ [])) nothing) (refused (refusal (view_checks s.id s.memory)))
-    go true true = refl
-    go true false = refl
-    go false b = refl
+    go : (q : ℕ) (a b : Bool) → eqb q 0 ≡ a → Numbered q
+        → meaning_shown (back_shown (cond a (cond b (gives (0 ∷ 13 * count s ∷ [])) nothing) (refused q)))
+        ≡ cond a (cond b (gives (0 ∷ 13 * count s ∷ [])) nothing) (refused q)
+    go q true true e n = refl
+    go q true false e n = refl
+    go q false b e n = refusal_is q n e
 
-answer_coded : (s : State) (a : Answer) → Coded (named_by s a)
-answer_coded s (refused n) = refl
-answer_coded s nothing = refl
-answer_coded s (gives ns) = named_coded s.id (13 * count s)
+answer_coded : (s : State) (a : Answer) → meaning_shown (back_shown a) ≡ a → Coded (named_by s a)
+answer_coded s (refused n) e = e
+answer_coded s nothing e = refl
+answer_coded s (gives ns) e = named_coded s.id (13 * count s)
 
 -- the struct, with its slice at any address
 struct : ℕ → Answer → List ℕ → Dsm
@@ -265,7 +300,7 @@ any_calls = record {
         struct (shown_id s) (shown_type s) (shown memory (view s)),
         ap (λ (k : Answer). record { id = shown_id s; kind = k; bytes = shown memory (view s) }) (kind_coded s),
       );
-  view_answer = λ c memory. let s = state c memory in (back_dsm (named_by s (view s)), answer_coded s (view s));
+  view_answer = λ c memory. let s = state c memory in (back_dsm (named_by s (view s)), answer_coded s (view s) (shown_coded s));
   blocks = λ memory l cs. any_more cs (begun (record { id = 0; came = false; held = replicate 16 false; done = false }) memory refl l);
 }
 
@@ -276,26 +311,26 @@ five = first_four ++ (sent 4 ∷ [])
 abbrev six : List Call
 six = five ++ (sent 5 ∷ [])
 
-module _ {c c' : CollectDsm} {memory memory' : List ℕ} {a : DsmAnswer} where
-  after_four : History c memory first_four → Feeding c memory (sent 4) a c' memory' → a ≡ Nothing
+module _ {c c' : CollectDsm} {memory memory' : List ℕ} {a : Answered} where
+  after_four : History c memory first_four → Feeding c memory (sent 4) a c' memory' → a ≡ Ok None
   unfolding fed first_copy counted all kroot_blocks field bit
-  after_four h call = answer_back a Nothing ((feed_recovers h call).recovers.exactly_when refl)
+  after_four h call = answer_back a (Ok None) ((feed_recovers h call).recovers.exactly_when refl)
 
-  after_five : History c memory five → Feeding c memory (sent 5) a c' memory' → a ≡ Nothing
+  after_five : History c memory five → Feeding c memory (sent 5) a c' memory' → a ≡ Ok None
   unfolding fed first_copy counted all kroot_blocks field bit
-  after_five h call = answer_back a Nothing ((feed_recovers h call).recovers.exactly_when refl)
+  after_five h call = answer_back a (Ok None) ((feed_recovers h call).recovers.exactly_when refl)
 
-  after_six : History c memory six → Feeding c memory (sent 6) a c' memory' → a ≡ Complete 2 Kroot 91
+  after_six : History c memory six → Feeding c memory (sent 6) a c' memory' → a ≡ Ok (Some seven)
   unfolding fed first_copy counted all kroot_blocks field bit
-  after_six h call = answer_back a (Complete 2 Kroot 91) ((feed_recovers h call).recovers.exactly_when refl)
+  after_six h call = answer_back a (Ok (Some seven)) ((feed_recovers h call).recovers.exactly_when refl)
 
-  fourth_missing : History c memory with_short → Feeding c memory (sent 6) a c' memory' → a ≡ Nothing
+  fourth_missing : History c memory with_short → Feeding c memory (sent 6) a c' memory' → a ≡ Ok None
   unfolding fed first_copy counted all kroot_blocks field bit
-  fourth_missing h call = answer_back a Nothing ((feed_recovers h call).recovers.exactly_when refl)
+  fourth_missing h call = answer_back a (Ok None) ((feed_recovers h call).recovers.exactly_when refl)
 
-  fourth_after : History c memory (with_short ++ (sent 6 ∷ [])) → Feeding c memory (sent 3) a c' memory' → a ≡ Complete 2 Kroot 91
+  fourth_after : History c memory (with_short ++ (sent 6 ∷ [])) → Feeding c memory (sent 3) a c' memory' → a ≡ Ok (Some seven)
   unfolding fed first_copy counted all kroot_blocks field bit
-  fourth_after h call = answer_back a (Complete 2 Kroot 91) ((feed_recovers h call).recovers.exactly_when refl)
+  fourth_after h call = answer_back a (Ok (Some seven)) ((feed_recovers h call).recovers.exactly_when refl)
 
 seven_shown : {c : CollectDsm} {memory : List ℕ} → History c memory (six ++ (sent 6 ∷ [])) → (bytes : List ℕ) → ViewDsm c memory bytes
     → bytes ≡ (sent 0).block ++ (sent 1).block ++ (sent 2).block ++ (sent 3).block ++ (sent 4).block ++ (sent 5).block ++ (sent 6).block

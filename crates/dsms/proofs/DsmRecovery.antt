@@ -22,7 +22,7 @@ use Rattle.runs.proofs.Runs.{goes_on_lem, before_twice, run_before_lem, run_from
 use Rattle.runs.proofs.Basics.{and_true}
 use Rattle.dsms.proofs.DsmRun.{fed_more, copy_kept, copy_new, copy_none, same_bool, yes_or, or_no, block_at, placed, put_long, block_put, block_other}
 use Rattle.dsms.proofs.DsmRun.{counted_byte, first_byte, counted_none, fed_stays, whole_parts, counts_stay, whole_stays, id_of_last}
-use Rattle.dsms.proofs.Blocks.{counted_few, header_id, header_block, other_block, admitted, feed_refused, feed_taken, begun_same, begun_other}
+use Rattle.dsms.proofs.Blocks.{counted_few, header_id, header_block, other_block, lent, whole_block, feed_refused, feed_taken, begun_same, begun_other}
 use Rattle.dsms.proofs.Blocks.{view_given, view_undone, nothing_shown}
 
 -- What the record and the memory say of a run of the ID i.
@@ -313,7 +313,7 @@ taken_came s n b = go s.done
 module _ (s : State) (r : List Call) (w : Holds s r) (c : Call) where
   refused_is : is_admitted c ≡ false → fed_to s c ≡ record { state = s; answer = refused 1 }
   refused_is e =
-      sym (feed_refused s c.header c.block (other_block s.id s.memory c.block w.long (eqb-false (length c.block) 13 e))
+      sym (feed_refused s c.header c.block (other_block s.id s.memory c.block (eqb-false (length c.block) 13 e))
       (λ z. absurd (omega (arith, z))))
 
   module _ (e : is_admitted c ≡ true) where
@@ -322,7 +322,7 @@ module _ (s : State) (r : List Call) (w : Holds s r) (c : Call) where
 
     taken_is : fed_to s c ≡ taken (begun s (id_in c)) (block_in c) c.block
     taken_is =
-        sym (feed_taken s c.header c.block (admitted s.id s.memory c.block w.long thirteen w.small) refl refl refl refl refl)
+        sym (feed_taken s c.header c.block (whole_block s.id s.memory c.block thirteen (lent s.id s.memory w.long w.small)) refl refl refl refl)
 
     grown_is : grown r c ≡ before r c ++ (c ∷ [])
     grown_is = rw e
@@ -375,9 +375,9 @@ module _ (i : ℕ) (s : State) (r : List Call) (k : Core i s r) where
     where
       go : (b : Bool) → is_whole i r ≡ b → view s ≡ cond b (gives (0 ∷ 13 * counts i r ∷ [])) nothing
       go true w =
-          sym (view_given s k.long (rw k.id_is h) (rw (k.done_is, w)) (sym (core_count w))
+          sym (view_given s (lent s.id s.memory k.long (rw k.id_is h)) (rw (k.done_is, w)) (sym (core_count w))
           (λ z. absurd (omega (arith, (whole_parts i r w).0, z))))
-      go false w = sym (view_undone s k.long (rw k.id_is h) (rw (k.done_is, w)))
+      go false w = sym (view_undone s (lent s.id s.memory k.long (rw k.id_is h)) (rw (k.done_is, w)))
 
   copies : (n : ℕ) → n ≤ 16 → all_held s.held n ≡ true → take (13 * n) s.memory ≡ first_copies n r
   unfolding all first_copies
@@ -470,7 +470,7 @@ new_seen m l =
     let k : Core 0 (fresh (new m) 0) [] = fresh_core 0 (new m) l in
     let none : in_view 0 [] ≡ nothing = rw (sym k.done_is) in
     let bytes : bytes_in_view 0 [] ≡ [] = rw (sym k.done_is) in
-    let v : nothing ≡ view (new m) = view_undone (new m) l (omega arith) refl in
+    let v : nothing ≡ view (new m) = view_undone (new m) (lent 0 m l (omega arith)) refl in
     record {
       holds = new_holds m l;
       sees = record { id_is = refl; view_is = sym v ∙ sym none; bytes = sym (nothing_shown m v) ∙ sym bytes };

@@ -59,5 +59,5 @@ sound_fed d header block h = go (refusal (feed_checks d.id d.memory block)) refl
         → Sound (cond {A = Fed} (eqb q 0) (taken (begun d (id_of header)) (block_of header) block) (record { state = d; answer = refused q })).state
     go zero e =
         sound_taken (begun d (id_of header)) (block_of header) block (sound_begun d (id_of header) h (header_id header)) (header_block header)
-        (admitted_then d.id d.memory block e refl).1
+        (admitted_then d.id d.memory block e).1
     go (suc q) e = rw (eqb-suc-zero q) h

@@ -11,7 +11,9 @@ use Rattle.layouts.specs.declared.dsm_header.DsmType.TheVariants.{Kroot, Pkr}
 use Rattle.dsms.specs.Agreed.{SameDsm, Agreed}
 use Rattle.dsms.specs.DsmView.{Kept, kept_of, ViewKept, IdKept, TypeKept, DataKept, ViewAnswer, FeedInPlace}
 use Rattle.dsms.specs.declared.dsm.CollectDsm.{CollectDsm}
-use Rattle.dsms.specs.declared.dsm.DsmAnswer.{DsmAnswer}
+use Rattle.dsms.specs.declared.dsm.CompleteDsm.{CompleteDsm}
+use Rattle.std.specs.Prelude.{Result, Option}
+use Rattle.layouts.specs.declared.refusal.Refusal.{Refusal}
 use Rattle.dsms.specs.declared.dsm.DsmFed.{DsmFed}
 use Rattle.dsms.specs.declared.dsm_view.Dsm.{Dsm}
 use Rattle.dsms.proofs.DsmUnique.{type_back, back_dsm, undo_dsm, new_dsm, feed_dsm, view_dsm_shown, view_dsm}
@@ -44,10 +46,10 @@ type_kept d r s p q = p ∙ sym q
 pub data_kept : (d : Dsm) (r s : Bor (List ℕ)) → DataKept d r → DataKept d s → r ≡ s
 data_kept d r s p q = p ∙ sym q
 
-pub view_answer : (c : CollectDsm) (memory : List ℕ) (r s : DsmAnswer) → ViewAnswer c memory r → ViewAnswer c memory s → r ≡ s
+pub view_answer : (c : CollectDsm) (memory : List ℕ) (r s : Result (Option CompleteDsm) Refusal) → ViewAnswer c memory r → ViewAnswer c memory s → r ≡ s
 view_answer c memory r s p q = sym (undo_dsm r) ∙ ap back_dsm (p ∙ sym q) ∙ undo_dsm s
 
-pub feed_in_place : (c : CollectDsm) (memory : List ℕ) (header : ℕ) (block : List ℕ) (r s : DsmAnswer) (k l : CollectDsm) (x y : List ℕ)
+pub feed_in_place : (c : CollectDsm) (memory : List ℕ) (header : ℕ) (block : List ℕ) (r s : Result (Option CompleteDsm) Refusal) (k l : CollectDsm) (x y : List ℕ)
     → FeedInPlace c memory header block r k x → FeedInPlace c memory header block s l y → (r ≡ s) × (k ≡ l) × (x ≡ y)
 feed_in_place c memory header block r s k l x y p q =
     let e = feed_dsm c memory header block (record { collector = k; answer = r }) (record { collector = l; answer = s }) x y p q in

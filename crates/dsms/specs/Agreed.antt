@@ -1,11 +1,12 @@
 -- Document 01, "How far each promise reaches": "show that any two answers satisfying it agree". `Agree` is of `layouts`; a line for each public function.
 -- Assumes nothing.
-use Rattle.std.specs.Prelude.{ℕ, List, ◌≡◌}
+use Rattle.std.specs.Prelude.{ℕ, List, ◌≡◌, Result, Option}
 use Rattle.layouts.specs.Agree.{Agree, AgreeWith}
+use Rattle.layouts.specs.declared.refusal.Refusal.{Refusal}
 use Rattle.dsms.specs.DsmPromises.{NewDsm, FeedDsm, ViewDsmShown, ViewDsm}
 use Rattle.dsms.specs.DsmView.{ViewKept, IdKept, TypeKept, DataKept, ViewAnswer, FeedInPlace}
 use Rattle.dsms.specs.declared.dsm.CollectDsm.{CollectDsm}
-use Rattle.dsms.specs.declared.dsm.DsmAnswer.{DsmAnswer}
+use Rattle.dsms.specs.declared.dsm.CompleteDsm.{CompleteDsm}
 use Rattle.dsms.specs.declared.dsm_view.Dsm.{Dsm}
 
 -- Two structs `Dsm` agree by the slice's bytes. The cause: the struct holds a reference, and an address is no part of a promise; which bytes stand there is.
@@ -22,7 +23,7 @@ pub record Agreed : Type 0 where
   pub view_shown : (c : CollectDsm) (memory : List ℕ) → Agree (ViewDsmShown c memory)
   pub view : (c : CollectDsm) (memory : List ℕ) → Agree (ViewDsm c memory)
   -- `dsm_in_place`: the answer, the record behind the reference and the lent bytes
-  pub feed_in_place : (c : CollectDsm) (memory : List ℕ) (header : ℕ) (block : List ℕ) (r s : DsmAnswer) (k l : CollectDsm) (x y : List ℕ)
+  pub feed_in_place : (c : CollectDsm) (memory : List ℕ) (header : ℕ) (block : List ℕ) (r s : Result (Option CompleteDsm) Refusal) (k l : CollectDsm) (x y : List ℕ)
       → FeedInPlace c memory header block r k x → FeedInPlace c memory header block s l y → (r ≡ s) × (k ≡ l) × (x ≡ y)
   -- `dsm_view`
   pub view_dsm : (c : CollectDsm) (memory : List ℕ) (r s : Dsm) → ViewKept c memory r → ViewKept c memory s → SameDsm r s

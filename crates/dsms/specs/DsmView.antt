@@ -1,15 +1,16 @@
 -- The two forms over a reference: document 01, "A DSM from its blocks".
 -- Assumes nothing.
-use Rattle.std.specs.Prelude.{ℕ, ◌*◌, ◌<◌, List, [], ◌∷◌, ◌≡◌, length}
+use Rattle.std.specs.Prelude.{ℕ, ◌*◌, ◌<◌, List, [], ◌∷◌, ◌≡◌, length, Result, Option}
 use Rattle.std.specs.Borrow.{Bor}
 use Rattle.layouts.specs.Answer.{Answer, refused, nothing, gives, shown}
 use Rattle.layouts.specs.Meaning.{meaning_type}
 use Rattle.layouts.specs.DsmHeader.{dsm_type_of}
 use Rattle.layouts.specs.declared.dsm_header.DsmType.{DsmType}
+use Rattle.layouts.specs.declared.refusal.Refusal.{Refusal}
 use Rattle.dsms.specs.Dsm.{State, count, view}
 use Rattle.dsms.specs.DsmPromises.{state, meaning_dsm, FeedDsm}
 use Rattle.dsms.specs.declared.dsm.CollectDsm.{CollectDsm}
-use Rattle.dsms.specs.declared.dsm.DsmAnswer.{DsmAnswer}
+use Rattle.dsms.specs.declared.dsm.CompleteDsm.{CompleteDsm}
 use Rattle.dsms.specs.declared.dsm_view.Dsm.{Dsm}
 
 -- "The view keeps the caller's slice beside its ID.": the ID, the type and the bytes that are shown
@@ -65,9 +66,9 @@ named_by s (refused k) = refused k
 named_by s nothing = nothing
 named_by s (gives ns) = gives (s.id ∷ dsm_type_of s.id ∷ 13 * count s ∷ [])
 
-abbrev pub ViewAnswer : CollectDsm → List ℕ → DsmAnswer → Type 0
+abbrev pub ViewAnswer : CollectDsm → List ℕ → Result (Option CompleteDsm) Refusal → Type 0
 ViewAnswer c memory r = meaning_dsm r ≡ named_by (state c memory) (view (state c memory))
 
 -- "The collector's small record is also offered changed in place.": the promise of `feed`, with the record behind the reference at exit
-abbrev pub FeedInPlace : CollectDsm → List ℕ → ℕ → List ℕ → DsmAnswer → CollectDsm → List ℕ → Type 0
+abbrev pub FeedInPlace : CollectDsm → List ℕ → ℕ → List ℕ → Result (Option CompleteDsm) Refusal → CollectDsm → List ℕ → Type 0
 FeedInPlace c memory header block r next after = FeedDsm c memory header block (record { collector = next; answer = r }) after

@@ -1,3 +1,2 @@
 -- For the prover alone: no promise cites a file of this folder.
 pub mod Dsm
-pub mod DsmView

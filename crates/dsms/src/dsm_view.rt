@@ -1,14 +1,13 @@
 // The DSM that is shown, as one value that keeps the caller's slice.
-ghost use Rattle.std.specs.Prelude.{◌≡◌};
-ghost use Rattle.layouts.specs.Meaning.{meaning_type};
-ghost use Rattle.dsms.specs.DsmPromises.{state};
-ghost use Rattle.dsms.specs.DsmView.{shown_id, shown_type, ViewKept, IdKept, TypeKept, DataKept, ViewAnswer};
-ghost use Rattle.dsms.specs.inner.DsmView.{told};
+ghost use Rattle.dsms.specs.DsmView.{ViewKept, IdKept, TypeKept, DataKept, ViewAnswer};
 
 use crate::dsm;
-use crate::dsm::{CollectDsm, DsmAnswer, DsmShown};
+use crate::dsm::{CollectDsm, CompleteDsm};
+use layouts::dsm_header;
 use layouts::dsm_header::DsmType;
+use layouts::refusal::Refusal;
 
+// A named form of the project: the struct, and its three methods by value.
 #[derive(Clone, Copy)]
 pub struct Dsm<'a> {
     pub id: u8,
@@ -37,58 +36,33 @@ impl<'a> Dsm<'a> {
     }
 }
 
-// The ID of the DSM that is shown; 0 where none is.
-fn shown_id(collector: CollectDsm, dsm: &[u8]) -> u8
-    ensures { result ≡ shown_id (state collector dsm.now) }
-{
-    match dsm::view_shown(collector, dsm) {
-        DsmShown::Refused(_) => 0,
-        DsmShown::Nothing => 0,
-        DsmShown::Shown(_) => collector.id,
-    }
-}
-
-// Its type; the first where none is.
-fn shown_type(collector: CollectDsm, dsm: &[u8]) -> DsmType
-    ensures { meaning_type result ≡ shown_type (state collector dsm.now) }
-{
-    let id = shown_id(collector, dsm);
-    if id < 12 {
-        return DsmType::Kroot;
-    }
-    DsmType::Pkr
-}
-
 // The DSM that is shown, with the caller's slice: ID 0, the first type and no byte where `dsm::view_shown` shows nothing or refuses.
 pub fn view_dsm<'a>(collector: CollectDsm, dsm: &'a [u8]) -> Dsm<'a>
     ensures { ViewKept collector dsm.now result }
 {
-    let id = shown_id(collector, dsm);
-    let dsm_type = shown_type(collector, dsm);
-    let data = dsm::view(collector, dsm);
-    Dsm { id, dsm_type, data }
-}
-
-// The answer of the question, with what the struct holds.
-fn told_of(id: u8, dsm_type: DsmType, data: &[u8], shown: DsmShown) -> DsmAnswer
-    ensures { result ≡ told id dsm_type «data».now shown }
-{
-    match shown {
-        DsmShown::Refused(n) => DsmAnswer::Refused(n),
-        DsmShown::Nothing => DsmAnswer::Nothing,
-        DsmShown::Shown(_) => DsmAnswer::Complete {
-            id,
-            dsm_type,
-            bytes: data.len(),
+    match dsm::view_shown(collector, dsm).unwrap_or(None) {
+        Some(bytes) => Dsm {
+            id: collector.id,
+            dsm_type: dsm_header::dsm_type(collector.id * 16),
+            data: &dsm[..bytes],
+        },
+        None => Dsm {
+            id: 0,
+            dsm_type: DsmType::Kroot,
+            data: &dsm[..0],
         },
     }
 }
 
 // Which DSM is shown and how many of the lent bytes are its own: 1 for other than 208 bytes, then 12.
-pub fn view_answer(collector: CollectDsm, dsm: &[u8]) -> DsmAnswer
+pub fn view_answer(collector: CollectDsm, dsm: &[u8]) -> Result<Option<CompleteDsm>, Refusal>
     ensures { ViewAnswer collector dsm.now result }
 {
+    let shown = dsm::view_shown(collector, dsm)?;
     let kept = view_dsm(collector, dsm);
-    let shown = dsm::view_shown(collector, dsm);
-    told_of(kept.id, kept.dsm_type, kept.data, shown)
+    Ok(shown.map(|bytes| CompleteDsm {
+        id: kept.id,
+        dsm_type: kept.dsm_type,
+        bytes,
+    }))
 }

@@ -1,20 +1,32 @@
 // Pages, and the runs that they are fed to one by one.
+use layouts::gst::Stamp;
 use page_replay::replay;
-use page_replay::replay::{DsmDone, PageReplay, ReplayAnswer, Replayed, SubframeDone};
+use page_replay::replay::{DsmDone, PageReplay, Replayed, SubframeDone};
 
-// What a run came to: its record, the last subframe and the last DSM, and how many calls were not answered with 1.
-#[derive(Clone, Copy)]
-pub(crate) struct Seen {
+// A run, with the memory that it is lent, and what it came to: its record, the last subframe and the last DSM, and how many calls were not
+// answered with 1.
+#[derive(Drop)]
+pub(crate) struct Run {
     pub record: PageReplay,
-    pub week: u16,
-    pub time: u32,
-    pub id: u8,
-    pub bytes: usize,
+    pub subframe: Option<SubframeDone>,
+    pub dsm: Option<DsmDone>,
     pub wrong: u64,
+    lent_hkroot: [u8; 540],
+    lent_mack: [u8; 2160],
+    lent_dsm: [u8; 208],
+}
+
+// In one line, for the many places where a time is written down.
+pub(crate) fn stamp(satellite: u8, week: u16, time: u32) -> Stamp {
+    Stamp {
+        satellite,
+        week,
+        time,
+    }
 }
 
 // A page with its HKROOT byte and its last MACK byte; an alert does not count.
-pub(crate) fn page(hkroot: u8, last: u8, is_alert: bool) -> [u8; 30] {
+fn page(hkroot: u8, last: u8, is_alert: bool) -> [u8; 30] {
     let mut bytes = [0u8; 30];
     bytes[15] = 128;
     if is_alert {
@@ -29,78 +41,40 @@ pub(crate) fn page(hkroot: u8, last: u8, is_alert: bool) -> [u8; 30] {
 }
 
 // A run that has seen nothing, from a time that is in range.
-pub(crate) fn start(satellite: u8, week: u16, time: u32) -> Seen {
-    let begun = replay::new(satellite, week, time);
-    let record = begun.replay;
-    Seen {
-        record,
-        week: 0,
-        time: 0,
-        id: 0,
-        bytes: 0,
+pub(crate) fn start(stamp: Stamp) -> Run {
+    Run {
+        record: replay::new(stamp).replay,
+        subframe: None,
+        dsm: None,
         wrong: 0,
+        lent_hkroot: [0; 540],
+        lent_mack: [0; 2160],
+        lent_dsm: [0; 208],
     }
 }
 
-fn with_subframe(seen: Seen, done: SubframeDone) -> Seen {
-    match done {
-        SubframeDone::None => seen,
-        SubframeDone::Subframe { week, time } => {
-            let mut next = seen;
-            next.week = week;
-            next.time = time;
-            next
+impl Run {
+    // What a call of one page adds.
+    fn add(&mut self, done: Replayed) {
+        self.record = done.replay;
+        if done.answer != Ok(1) {
+            self.wrong = self.wrong.saturating_add(1);
         }
+        self.subframe = done.subframe.or(self.subframe);
+        self.dsm = done.dsm.or(self.dsm);
     }
-}
 
-fn with_dsm(seen: Seen, done: DsmDone) -> Seen {
-    match done {
-        DsmDone::None => seen,
-        DsmDone::Dsm { id, bytes } => {
-            let mut next = seen;
-            next.id = id;
-            next.bytes = bytes;
-            next
-        }
+    // One page.
+    pub(crate) fn page(&mut self, byte: u8, last: u8, is_alert: bool) {
+        let bytes = page(byte, last, is_alert);
+        let done = replay::replay(
+            self.record,
+            &mut self.lent_hkroot,
+            &mut self.lent_mack,
+            &mut self.lent_dsm,
+            &bytes,
+            1,
+        );
+        self.add(done);
     }
-}
-
-fn is_one(answer: ReplayAnswer) -> bool {
-    match answer {
-        ReplayAnswer::Refused(_) => false,
-        ReplayAnswer::Consumed(n) => n == 1,
-    }
-}
-
-// What a call of one page adds.
-fn with(seen: Seen, done: Replayed) -> Seen {
-    let record = done.replay;
-    let mut next = seen;
-    next.record = record;
-    let answer = done.answer;
-    if !is_one(answer) {
-        if next.wrong < 1000 {
-            next.wrong += 1;
-        }
-    }
-    let subframe = done.subframe;
-    let dsm = done.dsm;
-    with_dsm(with_subframe(next, subframe), dsm)
-}
-
-// One page.
-pub(crate) fn one(
-    seen: Seen,
-    hkroot: &mut [u8],
-    mack: &mut [u8],
-    dsm: &mut [u8],
-    byte: u8,
-    last: u8,
-    is_alert: bool,
-) -> Seen {
-    let bytes = page(byte, last, is_alert);
-    let record = seen.record;
-    let done = replay::replay(record, hkroot, mack, dsm, &bytes, 1);
-    with(seen, done)
 }

@@ -1,60 +1,47 @@
 // What the program writes.
-use crate::pages::Seen;
+use crate::pages::Run;
+use layouts::gst::Stamp;
+use layouts::refusal::Refusal;
 use std::io;
 use std::io::Write;
 use texts::lines;
+use texts::lines::Counted;
 
-fn text<R: Print>(rt: &R, words: &[u8]) -> io::Result<()> {
-    io::writer(rt).write_all(words)
-}
-
-fn number<R: Print>(rt: &R, words: &[u8], n: u64) -> io::Result<()> {
-    text(rt, words)?;
-    print!(rt; "{n}")?;
-    Ok(())
-}
-
-// An edge's name, and a line each for the last subframe, the last DSM and the totals; then what no line has.
-pub(crate) fn run<R: Print>(rt: &R, name: &[u8], seen: Seen) -> io::Result<()> {
-    text(rt, name)?;
-    text(rt, b"\n")?;
-    let record = seen.record;
+// An edge's name, and a line each for the last subframe, the last DSM and the totals, of zeros where there is none; then what no line has.
+pub(crate) fn run<R: Print>(rt: &R, name: &str, run: &Run) -> io::Result<()> {
+    println!(rt; "{name}")?;
+    let record = run.record;
+    let next = record.next;
     let mut out = [0u8; 256];
-    let a = lines::subframe(&mut out, record.satellite, seen.week, seen.time);
-    text(rt, &out[..a])?;
-    let b = lines::dsm(&mut out, seen.id, seen.bytes);
-    text(rt, &out[..b])?;
-    totals(rt, seen)?;
-    number(rt, b"used ", record.used)?;
-    number(rt, b" unused ", record.unused)?;
-    number(rt, b" next ", record.week as u64)?;
-    number(rt, b" ", record.time as u64)?;
-    number(rt, b" wrong ", seen.wrong)?;
-    text(rt, b"\n")?;
-    Ok(())
-}
-
-fn totals<R: Print>(rt: &R, seen: Seen) -> io::Result<()> {
-    let record = seen.record;
-    let mut out = [0u8; 256];
-    let many = lines::totals(
-        &mut out,
-        record.pages,
-        record.skipped,
-        record.subframes_done,
-        record.dsms_done,
-        record.silent,
-        0,
-    );
-    text(rt, &out[..many])?;
-    Ok(())
+    let (week, time) = run.subframe.map_or((0, 0), |done| (done.week, done.time));
+    let subframe = Stamp {
+        satellite: next.satellite,
+        week,
+        time,
+    };
+    let many = lines::subframe(&mut out, subframe);
+    io::writer(rt).write_all(&out[..many])?;
+    let (id, bytes) = run.dsm.map_or((0, 0), |done| (done.id, done.bytes));
+    let many = lines::dsm(&mut out, id, bytes);
+    io::writer(rt).write_all(&out[..many])?;
+    let counts = Counted {
+        pages: record.pages,
+        skipped: record.skipped,
+        subframes: record.subframes_done,
+        dsms: record.dsms_done,
+        silent: record.silent,
+        tail: 0,
+    };
+    let many = lines::totals(&mut out, counts);
+    io::writer(rt).write_all(&out[..many])?;
+    print!(rt; "used {} unused {} ", record.used, record.unused)?;
+    println!(rt; "next {} {} wrong {}", next.week, next.time, run.wrong)
 }
 
 // What a call answered: its refusal number, or 0 with how many pages were consumed.
-pub(crate) fn call<R: Print>(rt: &R, name: &[u8], refusal: u8, consumed: usize) -> io::Result<()> {
-    text(rt, name)?;
-    number(rt, b": refused ", refusal as u64)?;
-    number(rt, b" consumed ", consumed as u64)?;
-    text(rt, b"\n")?;
-    Ok(())
+pub(crate) fn call<R: Print>(rt: &R, name: &str, answer: Result<usize, Refusal>) -> io::Result<()> {
+    match answer {
+        Ok(consumed) => println!(rt; "{name}: refused 0 consumed {consumed}"),
+        Err(refusal) => println!(rt; "{name}: refused {} consumed 0", refusal.number()),
+    }
 }

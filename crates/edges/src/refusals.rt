@@ -1,173 +1,104 @@
 // Single calls: how many pages are consumed, and what is refused.
+use crate::pages::stamp;
 use crate::print;
+use layouts::gst::Stamp;
 use page_replay::replay;
-use page_replay::replay::{Begun, PageReplay, ReplayAnswer};
+use page_replay::replay::PageReplay;
 use std::io;
 
-fn told<R: Print>(
+fn fresh() -> PageReplay {
+    replay::new(stamp(3, 1200, 60)).replay
+}
+
+// A call that is lent memory of these lengths, at most 540, 2,161 and 208 bytes.
+fn lent<R: Print>(
     rt: &R,
-    name: &[u8],
+    name: &str,
+    lengths: [usize; 3],
     record: PageReplay,
-    hkroot: &mut [u8],
-    mack: &mut [u8],
-    dsm: &mut [u8],
     pages: &[u8],
     budget: usize,
 ) -> io::Result<()> {
-    let done = replay::replay(record, hkroot, mack, dsm, pages, budget);
-    let answer = done.answer;
-    match answer {
-        ReplayAnswer::Refused(n) => print::call(rt, name, n, 0)?,
-        ReplayAnswer::Consumed(n) => print::call(rt, name, 0, n)?,
-    }
-    Ok(())
-}
-
-fn fresh() -> PageReplay {
-    let begun = replay::new(3, 1200, 60);
-    begun.replay
-}
-
-// A call with these bytes of pages.
-fn bytes<R: Print>(rt: &R, name: &[u8], pages: &[u8], budget: usize) -> io::Result<()> {
+    let [h, m, d] = lengths;
     let mut hkroot = [0u8; 540];
-    let mut mack = [0u8; 2160];
+    let mut mack = [0u8; 2161];
     let mut dsm = [0u8; 208];
-    told(
-        rt,
-        name,
-        fresh(),
-        &mut hkroot,
-        &mut mack,
-        &mut dsm,
+    let done = replay::replay(
+        record,
+        &mut hkroot[..h.min(540)],
+        &mut mack[..m.min(2161)],
+        &mut dsm[..d.min(208)],
         pages,
         budget,
-    )?;
-    Ok(())
+    );
+    print::call(rt, name, done.answer)
+}
+
+fn bytes<R: Print>(rt: &R, name: &str, pages: &[u8], budget: usize) -> io::Result<()> {
+    lent(rt, name, [540, 2160, 208], fresh(), pages, budget)
 }
 
 // A call with that record, a page and a budget of 1.
-fn record<R: Print>(rt: &R, name: &[u8], record: PageReplay) -> io::Result<()> {
-    let mut hkroot = [0u8; 540];
-    let mut mack = [0u8; 2160];
-    let mut dsm = [0u8; 208];
-    let pages = [0u8; 30];
-    told(
-        rt,
-        name,
-        record,
-        &mut hkroot,
-        &mut mack,
-        &mut dsm,
-        &pages,
-        1,
-    )?;
-    Ok(())
+fn record<R: Print>(rt: &R, name: &str, record: PageReplay) -> io::Result<()> {
+    lent(rt, name, [540, 2160, 208], record, &[0; 30], 1)
 }
 
 fn lengths<R: Print>(rt: &R) -> io::Result<()> {
-    let mut hkroot = [0u8; 540];
-    let mut mack = [0u8; 2160];
-    let mut dsm = [0u8; 208];
-    let mut short_hkroot = [0u8; 539];
-    let mut long_mack = [0u8; 2161];
-    let mut short_dsm = [0u8; 207];
-    let pages = [0u8; 30];
-    told(
-        rt,
-        b"539 HKROOT bytes",
-        fresh(),
-        &mut short_hkroot,
-        &mut mack,
-        &mut dsm,
-        &pages,
-        1,
-    )?;
-    told(
-        rt,
-        b"2,161 MACK bytes",
-        fresh(),
-        &mut hkroot,
-        &mut long_mack,
-        &mut dsm,
-        &pages,
-        1,
-    )?;
-    told(
-        rt,
-        b"207 DSM bytes, and a budget of 16",
-        fresh(),
-        &mut hkroot,
-        &mut mack,
-        &mut short_dsm,
-        &pages,
-        16,
-    )?;
-    Ok(())
+    let page = [0u8; 30];
+    lent(rt, "539 HKROOT bytes", [539, 2160, 208], fresh(), &page, 1)?;
+    lent(rt, "2,161 MACK bytes", [540, 2161, 208], fresh(), &page, 1)?;
+    let name = "207 DSM bytes, and a budget of 16";
+    lent(rt, name, [540, 2160, 207], fresh(), &page, 16)
 }
 
 fn totals<R: Print>(rt: &R) -> io::Result<()> {
     let mut a = fresh();
     a.pages = 4611686018427387904;
-    record(rt, b"2^62 pages", a)?;
+    record(rt, "2^62 pages", a)?;
     a.pages = 4611686018427387905;
-    record(rt, b"more than 2^62 pages", a)?;
+    record(rt, "more than 2^62 pages", a)?;
     let mut b = fresh();
     b.dsms_done = 18446744073709551615;
-    record(rt, b"2^64 - 1 DSMs", b)?;
+    record(rt, "2^64 - 1 DSMs", b)?;
     let mut c = fresh();
     c.silent = 4611686018427387905;
-    record(rt, b"more than 2^62 silent subframes", c)?;
-    Ok(())
+    record(rt, "more than 2^62 silent subframes", c)
 }
 
 fn ranges<R: Print>(rt: &R) -> io::Result<()> {
     let mut a = fresh();
-    a.satellite = 37;
-    record(rt, b"satellite 37 in the record", a)?;
+    a.next.satellite = 37;
+    record(rt, "satellite 37 in the record", a)?;
     let mut b = fresh();
-    b.week = 4096;
-    record(rt, b"week 4,096 in the record", b)?;
+    b.next.week = 4096;
+    record(rt, "week 4,096 in the record", b)?;
     let mut c = fresh();
-    c.time = 604800;
-    record(rt, b"time 604,800 in the record", c)?;
-    Ok(())
+    c.next.time = 604800;
+    record(rt, "time 604,800 in the record", c)
 }
 
-fn begun<R: Print>(rt: &R, name: &[u8], satellite: u8, week: u16, time: u32) -> io::Result<()> {
-    let begun = replay::new(satellite, week, time);
-    let answer = begun.answer;
-    match answer {
-        Begun::Refused(n) => print::call(rt, name, n, 0)?,
-        Begun::Ready => print::call(rt, name, 0, 0)?,
-    }
-    Ok(())
+fn begun<R: Print>(rt: &R, name: &str, first: Stamp) -> io::Result<()> {
+    print::call(rt, name, replay::new(first).answer.map(|()| 0))
 }
 
 fn starts<R: Print>(rt: &R) -> io::Result<()> {
-    begun(rt, b"satellite 0", 0, 4096, 604800)?;
-    begun(rt, b"satellite 37", 37, 4096, 604800)?;
-    begun(rt, b"week 4,096", 36, 4096, 604800)?;
-    begun(rt, b"time 604,800", 36, 4095, 604800)?;
-    begun(rt, b"the last second", 36, 4095, 604799)?;
-    Ok(())
+    begun(rt, "satellite 0", stamp(0, 4096, 604800))?;
+    begun(rt, "satellite 37", stamp(37, 4096, 604800))?;
+    begun(rt, "week 4,096", stamp(36, 4096, 604800))?;
+    begun(rt, "time 604,800", stamp(36, 4095, 604800))?;
+    begun(rt, "the last second", stamp(36, 4095, 604799))
 }
 
 fn pages<R: Print>(rt: &R) -> io::Result<()> {
-    let some = [0u8; 29];
-    bytes(rt, b"29 bytes", &some, 15)?;
-    let one = [0u8; 31];
-    bytes(rt, b"31 bytes", &one, 15)?;
-    let fourteen = [0u8; 449];
-    bytes(rt, b"449 bytes", &fourteen, 15)?;
-    let fifteen = [0u8; 450];
-    bytes(rt, b"450 bytes", &fifteen, 15)?;
+    bytes(rt, "29 bytes", &[0; 29], 15)?;
+    bytes(rt, "31 bytes", &[0; 31], 15)?;
+    bytes(rt, "449 bytes", &[0; 449], 15)?;
+    bytes(rt, "450 bytes", &[0; 450], 15)?;
     let sixteen = [0u8; 480];
-    bytes(rt, b"480 bytes", &sixteen, 15)?;
-    bytes(rt, b"480 bytes, budget 3", &sixteen, 3)?;
-    bytes(rt, b"480 bytes, budget 0", &sixteen, 0)?;
-    bytes(rt, b"480 bytes, budget 16", &sixteen, 16)?;
-    Ok(())
+    bytes(rt, "480 bytes", &sixteen, 15)?;
+    bytes(rt, "480 bytes, budget 3", &sixteen, 3)?;
+    bytes(rt, "480 bytes, budget 0", &sixteen, 0)?;
+    bytes(rt, "480 bytes, budget 16", &sixteen, 16)
 }
 
 pub(crate) fn all<R: Print>(rt: &R) -> io::Result<()> {
@@ -175,6 +106,5 @@ pub(crate) fn all<R: Print>(rt: &R) -> io::Result<()> {
     lengths(rt)?;
     totals(rt)?;
     ranges(rt)?;
-    starts(rt)?;
-    Ok(())
+    starts(rt)
 }

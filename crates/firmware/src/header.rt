@@ -1,45 +1,38 @@
 // The NMA header and the DSM header. A number above 255 is no header: 7.
-ghost use Rattle.firmware.specs.Header as promise;
 ghost use Rattle.std.specs.Prelude.{◌≡◌, [], ◌∷◌};
 ghost use Rattle.layouts.specs.Answer.{gives};
-ghost use Rattle.layouts.specs.Meaning.{meaning_status, meaning_chain_status, meaning_type};
+ghost use Rattle.layouts.specs.Meaning.{meaning_number, meaning_status, meaning_chain_status, meaning_type};
+ghost use Rattle.firmware.specs.Arguments.{of_header};
+ghost use Rattle.firmware.specs.Header as promise;
 
+use crate::tell;
 use layouts::dsm_header::DsmType;
 use layouts::nma_header::{ChainAndPubkeyStatus, NmaStatus};
+use layouts::refusal::Refusal;
+use layouts::{dsm_header, nma_header};
 
-fn nma_number(status: NmaStatus) -> u64
-    ensures { gives (result ∷ []) ≡ meaning_status status }
+fn byte(header: u64) -> Result<u8, Refusal>
+    ensures { meaning_number result ≡ of_header header (header ∷ []) }
 {
-    match status {
-        NmaStatus::Reserved => 0,
-        NmaStatus::Test => 1,
-        NmaStatus::Operational => 2,
-        NmaStatus::DontUse => 3,
-    }
+    u8::try_from(header).map_err(|_| Refusal::Argument)
 }
 
-fn chain_number(status: ChainAndPubkeyStatus) -> u64
+fn status_number(status: NmaStatus) -> u64
+    ensures { gives (result ∷ []) ≡ meaning_status status }
+{
+    status as u64
+}
+
+fn chain_status_number(status: ChainAndPubkeyStatus) -> u64
     ensures { gives (result ∷ []) ≡ meaning_chain_status status }
 {
-    match status {
-        ChainAndPubkeyStatus::Reserved => 0,
-        ChainAndPubkeyStatus::Nominal => 1,
-        ChainAndPubkeyStatus::EndOfChain => 2,
-        ChainAndPubkeyStatus::ChainRevoked => 3,
-        ChainAndPubkeyStatus::NewPublicKey => 4,
-        ChainAndPubkeyStatus::PublicKeyRevoked => 5,
-        ChainAndPubkeyStatus::NewMerkleTree => 6,
-        ChainAndPubkeyStatus::AlertMessage => 7,
-    }
+    status as u64
 }
 
 fn type_number(kind: DsmType) -> u64
     ensures { gives (result ∷ []) ≡ meaning_type kind }
 {
-    match kind {
-        DsmType::Kroot => 0,
-        DsmType::Pkr => 1,
-    }
+    kind as u64
 }
 
 // NMAS: 7.
@@ -47,11 +40,10 @@ fn type_number(kind: DsmType) -> u64
 pub extern "C" fn osnma_nma_status(header: u64, value: &mut u64) -> u32
     ensures { promise.NmaStatus header value.old result value.new }
 {
-    if 255 < header {
-        return 7;
-    }
-    *value = nma_number(layouts::nma_header::nma_status(header as u8));
-    0
+    tell::number(
+        byte(header).map(|h| status_number(nma_header::nma_status(h))),
+        value,
+    )
 }
 
 // CID: 7.
@@ -59,11 +51,10 @@ pub extern "C" fn osnma_nma_status(header: u64, value: &mut u64) -> u32
 pub extern "C" fn osnma_chain_id(header: u64, value: &mut u64) -> u32
     ensures { promise.ChainId header value.old result value.new }
 {
-    if 255 < header {
-        return 7;
-    }
-    *value = layouts::nma_header::chain_id(header as u8) as u64;
-    0
+    tell::number(
+        byte(header).map(|h| u64::from(nma_header::chain_id(h))),
+        value,
+    )
 }
 
 // CPKS: 7.
@@ -71,11 +62,10 @@ pub extern "C" fn osnma_chain_id(header: u64, value: &mut u64) -> u32
 pub extern "C" fn osnma_chain_and_pubkey_status(header: u64, value: &mut u64) -> u32
     ensures { promise.ChainAndPubkeyStatus header value.old result value.new }
 {
-    if 255 < header {
-        return 7;
-    }
-    *value = chain_number(layouts::nma_header::chain_and_pubkey_status(header as u8));
-    0
+    tell::number(
+        byte(header).map(|h| chain_status_number(nma_header::chain_and_pubkey_status(h))),
+        value,
+    )
 }
 
 // DSM ID: 7.
@@ -83,11 +73,10 @@ pub extern "C" fn osnma_chain_and_pubkey_status(header: u64, value: &mut u64) ->
 pub extern "C" fn osnma_dsm_id(header: u64, value: &mut u64) -> u32
     ensures { promise.DsmId header value.old result value.new }
 {
-    if 255 < header {
-        return 7;
-    }
-    *value = layouts::dsm_header::dsm_id(header as u8) as u64;
-    0
+    tell::number(
+        byte(header).map(|h| u64::from(dsm_header::dsm_id(h))),
+        value,
+    )
 }
 
 // DSM block ID: 7.
@@ -95,11 +84,10 @@ pub extern "C" fn osnma_dsm_id(header: u64, value: &mut u64) -> u32
 pub extern "C" fn osnma_dsm_block_id(header: u64, value: &mut u64) -> u32
     ensures { promise.DsmBlockId header value.old result value.new }
 {
-    if 255 < header {
-        return 7;
-    }
-    *value = layouts::dsm_header::dsm_block_id(header as u8) as u64;
-    0
+    tell::number(
+        byte(header).map(|h| u64::from(dsm_header::dsm_block_id(h))),
+        value,
+    )
 }
 
 // DSM type, 0 KROOT, 1 PKR: 7.
@@ -107,9 +95,8 @@ pub extern "C" fn osnma_dsm_block_id(header: u64, value: &mut u64) -> u32
 pub extern "C" fn osnma_dsm_type(header: u64, value: &mut u64) -> u32
     ensures { promise.DsmType header value.old result value.new }
 {
-    if 255 < header {
-        return 7;
-    }
-    *value = type_number(layouts::dsm_header::dsm_type(header as u8));
-    0
+    tell::number(
+        byte(header).map(|h| type_number(dsm_header::dsm_type(h))),
+        value,
+    )
 }

@@ -1,8 +1,25 @@
-// MACK messages.
+// MACK messages. Bytes, key size and tag size one by one, as C hands them over (include/osnma.h).
+ghost use Rattle.std.specs.Prelude.{◌≡◌};
 ghost use Rattle.firmware.specs.Mack.{MackTag0, MackMacseq, MackCop, MackTag, MackTagInfo, MackPrnd, MackAdkd, MackTagCop, MackNumTags, MackKey};
 
 use crate::tell;
-use layouts::answer::Copy;
+use layouts::mack::{Mack, Sizes};
+
+fn sizes(key_size_bytes: u64, tag_size_bits: u64) -> Sizes
+    ensures { (result.key_bytes ≡ key_size_bytes) × (result.tag_bits ≡ tag_size_bits) }
+{
+    Sizes {
+        key_bytes: key_size_bytes as usize,
+        tag_bits: tag_size_bits as usize,
+    }
+}
+
+fn mack<'a>(msg: &'a [u8], key_size_bytes: u64, tag_size_bits: u64) -> Mack<'a>
+    ensures { (result.msg.now ≡ msg.now) × (result.sizes.key_bytes ≡ key_size_bytes) × (result.sizes.tag_bits ≡ tag_size_bits) }
+{
+    let sizes = sizes(key_size_bytes, tag_size_bits);
+    Mack { msg, sizes }
+}
 
 // nt: 7.
 #[unsafe(no_mangle)]
@@ -13,10 +30,7 @@ pub extern "C" fn osnma_mack_num_tags(
 ) -> u32
     ensures { MackNumTags key_size_bytes tag_size_bits value.old result value.new }
 {
-    tell::number(
-        layouts::mack::num_tags(key_size_bytes as usize, tag_size_bits as usize),
-        value,
-    )
+    tell::number(sizes(key_size_bytes, tag_size_bits).num_tags(), value)
 }
 
 // Tag 0: 1, 7.
@@ -29,10 +43,7 @@ pub extern "C" fn osnma_mack_tag0(
 ) -> u32
     ensures { MackTag0 msg.now key_size_bytes tag_size_bits value.old result value.new }
 {
-    tell::number(
-        layouts::mack::tag0(msg, key_size_bytes as usize, tag_size_bits as usize),
-        value,
-    )
+    tell::number(mack(msg, key_size_bytes, tag_size_bits).tag0(), value)
 }
 
 // MACSEQ: 1, 7.
@@ -45,10 +56,7 @@ pub extern "C" fn osnma_mack_macseq(
 ) -> u32
     ensures { MackMacseq msg.now key_size_bytes tag_size_bits value.old result value.new }
 {
-    tell::number(
-        layouts::mack::macseq(msg, key_size_bytes as usize, tag_size_bits as usize),
-        value,
-    )
+    tell::number(mack(msg, key_size_bytes, tag_size_bits).macseq(), value)
 }
 
 // COP of tag 0: 1, 7.
@@ -61,10 +69,7 @@ pub extern "C" fn osnma_mack_cop(
 ) -> u32
     ensures { MackCop msg.now key_size_bytes tag_size_bits value.old result value.new }
 {
-    tell::number(
-        layouts::mack::cop(msg, key_size_bytes as usize, tag_size_bits as usize),
-        value,
-    )
+    tell::number(mack(msg, key_size_bytes, tag_size_bits).cop(), value)
 }
 
 // Tag n: 1, 7, 7.
@@ -79,12 +84,7 @@ pub extern "C" fn osnma_mack_tag(
     ensures { MackTag msg.now key_size_bytes tag_size_bits tag value.old result value.new }
 {
     tell::number(
-        layouts::mack::tag(
-            msg,
-            key_size_bytes as usize,
-            tag_size_bits as usize,
-            tag as usize,
-        ),
+        mack(msg, key_size_bytes, tag_size_bits).tag(tag as usize),
         value,
     )
 }
@@ -101,12 +101,7 @@ pub extern "C" fn osnma_mack_tag_info(
     ensures { MackTagInfo msg.now key_size_bytes tag_size_bits tag value.old result value.new }
 {
     tell::number(
-        layouts::mack::tag_info(
-            msg,
-            key_size_bytes as usize,
-            tag_size_bits as usize,
-            tag as usize,
-        ),
+        mack(msg, key_size_bytes, tag_size_bits).tag_info(tag as usize),
         value,
     )
 }
@@ -123,12 +118,7 @@ pub extern "C" fn osnma_mack_prnd(
     ensures { MackPrnd msg.now key_size_bytes tag_size_bits tag value.old result value.new }
 {
     tell::number(
-        layouts::mack::prnd_number(
-            msg,
-            key_size_bytes as usize,
-            tag_size_bits as usize,
-            tag as usize,
-        ),
+        mack(msg, key_size_bytes, tag_size_bits).prnd_number(tag as usize),
         value,
     )
 }
@@ -145,12 +135,7 @@ pub extern "C" fn osnma_mack_adkd(
     ensures { MackAdkd msg.now key_size_bytes tag_size_bits tag value.old result value.new }
 {
     tell::number(
-        layouts::mack::adkd_number(
-            msg,
-            key_size_bytes as usize,
-            tag_size_bits as usize,
-            tag as usize,
-        ),
+        mack(msg, key_size_bytes, tag_size_bits).adkd_number(tag as usize),
         value,
     )
 }
@@ -167,12 +152,7 @@ pub extern "C" fn osnma_mack_tag_cop(
     ensures { MackTagCop msg.now key_size_bytes tag_size_bits tag value.old result value.new }
 {
     tell::number(
-        layouts::mack::tag_cop(
-            msg,
-            key_size_bytes as usize,
-            tag_size_bits as usize,
-            tag as usize,
-        ),
+        mack(msg, key_size_bytes, tag_size_bits).tag_cop(tag as usize),
         value,
     )
 }
@@ -187,8 +167,5 @@ pub extern "C" fn osnma_mack_key(
 ) -> u32
     ensures { MackKey msg.now key_size_bytes tag_size_bits out.old result out.new }
 {
-    match layouts::mack::key(msg, key_size_bytes as usize, tag_size_bits as usize, out) {
-        Copy::Refused(n) => n as u32,
-        Copy::Copied => 0,
-    }
+    tell::done(mack(msg, key_size_bytes, tag_size_bits).key(out))
 }

@@ -1,19 +1,14 @@
 // The look-up table.
-ghost use Rattle.std.specs.Prelude.{◌≡◌, length};
 ghost use Rattle.firmware.specs.inner.Ids.{SameId};
 ghost use Rattle.firmware.specs.Maclt.{GetMacltEntry, GetFlxIndices, MacltNt};
 
 use crate::tell;
-use layouts::answer::Number;
 
 // The ID as the table takes it; 0, which the table has not, for a number that is no byte.
 fn table_id(id: u64) -> u8
     ensures { SameId result id }
 {
-    if 255 < id {
-        return 0;
-    }
-    id as u8
+    u8::try_from(id).unwrap_or(0)
 }
 
 // The slot of a tag in message 0 or 1: 7, 8, 9. flex is 1 for an FLX slot, else 0 with the ADKD and the object, 0 self and 1 cross.
@@ -37,16 +32,6 @@ pub extern "C" fn osnma_get_maclt_entry(
     )
 }
 
-fn copy_four(from: [u8; 4], out: &mut [u8])
-    requires { (length from ≡ 4) × (length out.old ≡ 4) }
-    ensures { out.new ≡ from }
-{
-    out[0] = from[0];
-    out[1] = from[1];
-    out[2] = from[2];
-    out[3] = from[3];
-}
-
 // The FLX tags of message 0 or 1 and their count, into four bytes: 1, 7, 8. Zeros stand behind the last.
 #[unsafe(no_mangle)]
 pub extern "C" fn osnma_get_flx_indices(
@@ -60,14 +45,12 @@ pub extern "C" fn osnma_get_flx_indices(
     if positions.len() != 4 {
         return 1;
     }
-    let found = layouts::maclt::get_flx_indices(table_id(id), message as usize);
-    let n = found.count;
-    match n {
-        Number::Refused(refusal) => refusal as u32,
-        Number::Value(v) => {
+    match layouts::maclt::get_flx_indices(table_id(id), message as usize) {
+        Err(e) => u32::from(e.number()),
+        Ok(found) => {
             let indices = found.indices;
-            copy_four(indices, positions);
-            *count = v;
+            positions.copy_from_slice(&indices);
+            *count = u64::from(found.count);
             0
         }
     }

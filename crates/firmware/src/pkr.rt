@@ -80,6 +80,5 @@ pub extern "C" fn osnma_pkr_intermediate_tree_node(
     ensures { PkrIntermediateTreeNode msg.now node first.old many.old result first.new many.new }
 {
     let found = dsm_pkr::intermediate_tree_node(msg, node as usize);
-    let answer = found.answer;
-    tell::part(answer, first, many)
+    tell::part(found.map(|n| n.part), first, many)
 }

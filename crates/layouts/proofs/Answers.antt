@@ -10,8 +10,9 @@ use lib.Dec.{T, ltb, eqb, eqb-suc-zero}
 use borrow.Author.Tests.{lt-ltb, le-ltb, lt-leb, le-leb, eq-eqb, ne_eqb}
 use Rattle.layouts.specs.inner.Code.{Inside}
 use Rattle.layouts.specs.Meaning.{meaning_part}
-use Rattle.layouts.specs.declared.answer.Part.{Part}
-use Rattle.layouts.specs.declared.answer.Part.TheVariants.{Shown, Refused as NotShown}
+use Rattle.layouts.specs.declared.part.Part.{Part}
+use Rattle.layouts.specs.declared.refusal.Refusal.{Refusal}
+use Rattle.std.specs.Prelude.{Result, Ok, Err}
 use Rattle.layouts.specs.Answer.{shown, Copied, copied, Answer, refused, gives, Check, ◌when◌, refusal, answered}
 
 -- the tests of a definition, from the tests of the code
@@ -182,14 +183,14 @@ pub equals : (a b : ℕ) → a ≡ b → not (eqb a b) ≡ false
 equals a b e = rw (eq-eqb a b e)
 
 -- a part that is shown, or not
-pub inside : {p : Part} {first many len : ℕ} → p ≡ Shown first many → Inside p len → first + many ≤ len
-inside {len = len} e h = subst (λ (q : Part). Inside q len) e h
+pub inside : {r : Result Part Refusal} {p : Part} {len : ℕ} → r ≡ Ok p → Inside r len → p.first + p.many ≤ len
+inside {len = len} e h = subst (λ (q : Result Part Refusal). Inside q len) e h
 
-pub shown_bytes : (m : List ℕ) {p : Part} {first many : ℕ} → p ≡ Shown first many → take many (drop first m) ≡ shown m (meaning_part p)
+pub shown_bytes : (m : List ℕ) {r : Result Part Refusal} {p : Part} → r ≡ Ok p → take p.many (drop p.first m) ≡ shown m (meaning_part r)
 unfolding shown
 shown_bytes m e = rw e
 
-pub not_shown : (m : List ℕ) {p : Part} {n : ℕ} → p ≡ NotShown n → [] ≡ shown m (meaning_part p)
+pub not_shown : (m : List ℕ) {r : Result Part Refusal} {e : Refusal} → r ≡ Err e → [] ≡ shown m (meaning_part r)
 unfolding shown
 not_shown m e = rw e
 

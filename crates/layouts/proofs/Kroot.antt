@@ -10,7 +10,7 @@ use lib.ListN.{length}
 use borrow.Author.Tests.{ltb-false, eqb-true, eqb-false, le-ltb, eq-eqb, ne_eqb}
 use Rattle.layouts.specs.Answer.{Answer, refused, gives, ◌when◌, refusal, answered, part}
 use Rattle.layouts.specs.Bits.{the, value}
-use Rattle.layouts.specs.Sizes.{size, kroot_blocks, key_sizes, ecdsa_functions, read_size}
+use Rattle.layouts.specs.Sizes.{size, unless_0, kroot_blocks, key_sizes, ecdsa_functions, read_size}
 use Rattle.layouts.specs.DsmKroot.{
   kroot_layout,
   key_bytes,
@@ -25,13 +25,17 @@ use Rattle.layouts.specs.DsmKroot.{
   padding_part,
 }
 use Rattle.layouts.specs.Layouts.{Follow}
-use Rattle.layouts.specs.Meaning.{meaning_number, meaning_part}
-use Rattle.layouts.specs.declared.answer.Number.{Number}
-use Rattle.layouts.specs.declared.answer.Number.TheVariants.{Value, Refused}
-use Rattle.layouts.specs.declared.answer.Part.{Part}
-use Rattle.layouts.specs.declared.answer.Part.TheVariants.{Shown, Refused as NotShown}
+use Rattle.layouts.specs.Meaning.{meaning_part}
+use Rattle.layouts.specs.inner.Code.{Inside}
+use Rattle.layouts.specs.declared.part.Part.{Part}
+use Rattle.layouts.specs.declared.refusal.Refusal.{Refusal}
+use Rattle.layouts.specs.declared.refusal.Refusal.TheVariants.{Lengths}
+use Rattle.layouts.specs.Refusals.{refusal_number}
+use Rattle.std.specs.Prelude.{Option, Some, None, Result, Ok, Err}
+use Rattle.std.specs.Option.{ok_or}
 use Rattle.layouts.proofs.Answers.{stop, pass, done, refused_too, passed, Passed, none_fails, all_pass, converse, answer_of, refusal_idle, given_with}
-use Rattle.layouts.proofs.Readers.{first_of, second_of, part_first, part_many, part_ends}
+use Rattle.layouts.proofs.Options.{some_size, size_is, size_some, size_none, is_there, not_there}
+use Rattle.layouts.proofs.Readers.{first_of, second_of, part_first, part_many, part_ends, inside_part}
 use Rattle.layouts.proofs.Fields.{field_lt}
 use Rattle.layouts.proofs.Tables.{holds_below}
 
@@ -82,6 +86,9 @@ module _ (k r : ℕ) {p : ℕ} (e : p ≡ padding_to_block (k + 64)) where
   unfolding signature_length
   length_64 h = rw (eq-eqb r (64 + padding_to_block (k + 64)) (h ∙ ap (λ (n : ℕ). 64 + n) e))
 
+  pub some_64 : r ≡ 64 + p → Some 64 ≡ unless_0 (signature_length k r)
+  some_64 h = some_size (length_64 h) (omega arith)
+
   module _ {q : ℕ} (ne : r ≡ 64 + p → ⊥) (f : q ≡ padding_to_block (k + 132)) where
     not_64 : eqb r (64 + padding_to_block (k + 64)) ≡ false
     not_64 = ne_eqb r _ (λ h. ne (h ∙ ap (λ (n : ℕ). 64 + n) (sym e)))
@@ -90,58 +97,80 @@ module _ (k r : ℕ) {p : ℕ} (e : p ≡ padding_to_block (k + 64)) where
     unfolding signature_length
     length_132 h = rw (not_64, eq-eqb r (132 + padding_to_block (k + 132)) (h ∙ ap (λ (n : ℕ). 132 + n) f))
 
-    pub length_0 : (r ≡ 132 + q → ⊥) → 0 ≡ signature_length k r
+    pub some_132 : r ≡ 132 + q → Some 132 ≡ unless_0 (signature_length k r)
+    some_132 h = some_size (length_132 h) (omega arith)
+
+    pub no_length : (r ≡ 132 + q → ⊥) → None ≡ unless_0 (signature_length k r)
     unfolding signature_length
-    length_0 no' = rw (not_64, ne_eqb r (132 + padding_to_block (k + 132)) (λ h. no' (h ∙ ap (λ (n : ℕ). 132 + n) (sym f))))
+    no_length no' = rw (not_64, ne_eqb r (132 + padding_to_block (k + 132)) (λ h. no' (h ∙ ap (λ (n : ℕ). 132 + n) (sym f))))
+
+pub ruleset lengths = (padding_few, some_64, some_132, no_length)
+
+-- what is shown lies within the message
+module _ (r : Result Part Refusal) (m : List ℕ) where
+  pub kroot_inside : meaning_part r ≡ kroot_part m → Inside r (length m)
+  unfolding kroot_part
+  kroot_inside e = inside_part r m 13 (key_bytes m) (key_checks m) tt e
+
+  pub signature_inside : meaning_part r ≡ signature_part m → Inside r (length m)
+  unfolding signature_part
+  signature_inside e = inside_part r m (13 + key_bytes m) (signature_bytes m) (signature_checks m) tt e
+
+  pub padding_inside : meaning_part r ≡ padding_part m → Inside r (length m)
+  unfolding padding_part
+  padding_inside e =
+      let first = 13 + key_bytes m + signature_bytes m in inside_part r m first (length m - first) (signature_checks m) tt e
 
 module _ (m : List ℕ) where
   -- the key, after its size
-  module _ {x : Number} (e : meaning_number x ≡ read_size (the "KS" kroot_layout) (size key_sizes) m) where
-    pub kroot_refused : {n : ℕ} → x ≡ Refused n → refused n ≡ kroot_part m
-    unfolding kroot_part
-    kroot_refused g = refused_too (key_checks m) _ (size key_sizes (value (the "KS" kroot_layout) m) ∷ []) _ (rw g at e)
+  pub kroot_refused : {n : ℕ} → refused n ≡ read_size (the "KS" kroot_layout) (size key_sizes) m → refused n ≡ kroot_part m
+  unfolding kroot_part
+  kroot_refused e = refused_too (key_checks m) _ (key_bytes m ∷ []) _ e
 
-    pub kroot_given : {v : ℕ} {r : Answer} → x ≡ Value v → r ≡ part m [] 13 v → r ≡ kroot_part m
-    unfolding kroot_part
-    kroot_given {v} g h =
-        let gave : gives (v ∷ []) ≡ read_size (the "KS" kroot_layout) (size key_sizes) m = rw g at e in
-        passed (key_checks m) _ (size key_sizes (value (the "KS" kroot_layout) m) ∷ []) _ tt gave
-        (h ∙ ap (λ (n : ℕ). part m [] 13 n) (first_of (answer_of _ (size key_sizes (value (the "KS" kroot_layout) m) ∷ []) gave)))
+  pub kroot_given : {v : ℕ} {r : Answer} → gives (v ∷ []) ≡ read_size (the "KS" kroot_layout) (size key_sizes) m → r ≡ part m [] 13 v → r ≡ kroot_part m
+  unfolding kroot_part
+  kroot_given gave h =
+      passed (key_checks m) _ (key_bytes m ∷ []) _ tt gave
+      (h ∙ ap (λ (n : ℕ). part m [] 13 n) (first_of (answer_of _ (key_bytes m ∷ []) gave)))
 
   -- the signature, after the key
-  module _ {x : Part} (e : meaning_part x ≡ kroot_part m) where
-    pub signature_refused : {n : ℕ} → x ≡ NotShown n → refused n ≡ signature_part m
-    unfolding kroot_part signature_part
-    signature_refused g = refused_too (key_checks m ++ (5 when ltb (length m) (13 + key_bytes m) ∷ [])) _ (13 ∷ key_bytes m ∷ []) _ (rw g at e)
+  pub signature_refused : {n : ℕ} → refused n ≡ kroot_part m → refused n ≡ signature_part m
+  unfolding kroot_part signature_part
+  signature_refused e = refused_too (key_checks m ++ (5 when ltb (length m) (13 + key_bytes m) ∷ [])) _ (13 ∷ key_bytes m ∷ []) _ e
 
-    module _ {f k : ℕ} (g : x ≡ Shown f k) where
-      gave : gives (f ∷ k ∷ []) ≡ part m (key_checks m) 13 (key_bytes m)
-      unfolding kroot_part
-      gave = rw g at e
+  module _ {f k : ℕ} (g : gives (f ∷ k ∷ []) ≡ kroot_part m) where
+    gave : gives (f ∷ k ∷ []) ≡ part m (key_checks m) 13 (key_bytes m)
+    unfolding kroot_part
+    gave = g
 
-      pub key_at : f ≡ 13
-      key_at = part_first m 13 (key_bytes m) (key_checks m) gave
+    pub key_at : f ≡ 13
+    key_at = part_first m 13 (key_bytes m) (key_checks m) gave
 
-      pub key_long : k ≡ key_bytes m
-      key_long = part_many m 13 (key_bytes m) (key_checks m) gave
+    pub key_long : k ≡ key_bytes m
+    key_long = part_many m 13 (key_bytes m) (key_checks m) gave
 
-      pub key_ends : f + k ≤ length m
-      key_ends = rw (key_at, key_long) (part_ends m 13 (key_bytes m) (key_checks m) gave tt)
+    pub key_ends : f + k ≤ length m
+    key_ends = rw (key_at, key_long) (part_ends m 13 (key_bytes m) (key_checks m) gave tt)
 
-      long : {s : ℕ} → s ≡ signature_length k (length m - (f + k)) → s ≡ signature_bytes m
-      long h = rw (key_at, key_long) at h
+    module _ {o : Option ℕ} (e : o ≡ unless_0 (signature_length k (length m - (f + k)))) where
+      long : o ≡ unless_0 (signature_bytes m)
+      long = rw (key_at, key_long) at e
 
-      pub signature_none : {s : ℕ} → s ≡ signature_length k (length m - (f + k)) → s ≡ 0 → refused 11 ≡ signature_part m
+      pub signature_none : {e : Refusal} → Err e ≡ ok_or o Lengths → refused (refusal_number e) ≡ signature_part m
       unfolding signature_part
-      signature_none h z =
-          passed (key_checks m ++ (5 when ltb (length m) (13 + key_bytes m) ∷ [])) _ (13 ∷ key_bytes m ∷ []) _ tt gave
-          (stop 11 _ _ _ tt (eq-eqb (signature_bytes m) 0 (sym (long h) ∙ z)))
+      signature_none n =
+          let p = not_there o Lengths n in
+          rw p.1
+          (passed (key_checks m ++ (5 when ltb (length m) (13 + key_bytes m) ∷ [])) _ (13 ∷ key_bytes m ∷ []) _ tt gave
+          (stop 11 _ _ _ tt (eq-eqb (signature_bytes m) 0 (size_none (signature_bytes m) long p.0))))
 
-      pub signature_given : {s : ℕ} {r : Answer} → s ≡ signature_length k (length m - (f + k)) → (s ≡ 0 → ⊥) → r ≡ part m [] (f + k) s → r ≡ signature_part m
+      pub signature_given : {s : ℕ} {r : Answer} → Ok s ≡ ok_or o Lengths → r ≡ part m [] (f + k) s → r ≡ signature_part m
       unfolding signature_part
-      signature_given h ne p =
+      signature_given n p =
+          let there : o ≡ Some _ = is_there o Lengths n in
           passed (key_checks m ++ (5 when ltb (length m) (13 + key_bytes m) ∷ [])) _ (13 ∷ key_bytes m ∷ []) _ tt gave
-          (pass 11 _ _ _ (ne_eqb (signature_bytes m) 0 (λ z. ne (long h ∙ z))) (rw (key_at, key_long, long h) at p))
+          (pass 11 _ _ _ (ne_eqb (signature_bytes m) 0 (size_some (signature_bytes m) long there))
+          (rw (key_at, key_long, size_is (signature_bytes m) long there) at p))
 
   -- after the signature: its checks leave room for it
   room : Passed (signature_checks m) → 13 + key_bytes m + signature_bytes m ≤ length m
@@ -189,43 +218,46 @@ module _ (m : List ℕ) where
         let h : 13 + key_bytes m + signature_bytes m ≤ length m = room all_there in
         rw (key_answer, given _ signature_answer, given _ padding_answer) (refl, (refl, (refl, omega arith)))
 
-  module _ {x : Part} (e : meaning_part x ≡ signature_part m) where
-    pub refused_after : (a : Answer) {n : ℕ} → x ≡ NotShown n → refused n ≡ answered (refusal (signature_checks m)) a
-    refused_after a g = refused_too (signature_checks m) [] ((13 + key_bytes m) ∷ signature_bytes m ∷ []) a ((rw g at e) ∙ signature_answer)
+  refused_after : (a : Answer) {n : ℕ} → refused n ≡ signature_part m → refused n ≡ answered (refusal (signature_checks m)) a
+  refused_after a e = refused_too (signature_checks m) [] ((13 + key_bytes m) ∷ signature_bytes m ∷ []) a (e ∙ signature_answer)
 
-    pub padding_refused : {n : ℕ} → x ≡ NotShown n → refused n ≡ padding_part m
-    padding_refused g = refused_after _ g ∙ sym padding_answer
+  pub padding_refused : {n : ℕ} → refused n ≡ signature_part m → refused n ≡ padding_part m
+  padding_refused e = refused_after _ e ∙ sym padding_answer
 
-    module _ {f s : ℕ} (g : x ≡ Shown f s) where
-      gave_sig : gives (f ∷ s ∷ []) ≡ answered (refusal (signature_checks m)) (gives ((13 + key_bytes m) ∷ signature_bytes m ∷ []))
-      gave_sig = (rw g at e) ∙ signature_answer
+  pub ecdsa_refused : {n : ℕ} → refused n ≡ signature_part m → refused n ≡ ecdsa_function m
+  unfolding ecdsa_function
+  ecdsa_refused e = refused_after _ e
 
-      pub sig_at : f ≡ 13 + key_bytes m
-      sig_at = first_of (answer_of _ ((13 + key_bytes m) ∷ signature_bytes m ∷ []) gave_sig)
+  module _ {f s : ℕ} (g : gives (f ∷ s ∷ []) ≡ signature_part m) where
+    gave_sig : gives (f ∷ s ∷ []) ≡ answered (refusal (signature_checks m)) (gives ((13 + key_bytes m) ∷ signature_bytes m ∷ []))
+    gave_sig = g ∙ signature_answer
 
-      pub sig_long : s ≡ signature_bytes m
-      sig_long = second_of (answer_of _ ((13 + key_bytes m) ∷ signature_bytes m ∷ []) gave_sig)
+    pub sig_at : f ≡ 13 + key_bytes m
+    sig_at = first_of (answer_of _ ((13 + key_bytes m) ∷ signature_bytes m ∷ []) gave_sig)
 
-      sig_passed : Passed (signature_checks m)
-      sig_passed = converse (signature_checks m) ((13 + key_bytes m) ∷ signature_bytes m ∷ []) tt gave_sig
+    pub sig_long : s ≡ signature_bytes m
+    sig_long = second_of (answer_of _ ((13 + key_bytes m) ∷ signature_bytes m ∷ []) gave_sig)
 
-      pub sig_ends : f + s ≤ length m
-      sig_ends = rw (sig_at, sig_long) (room sig_passed)
+    sig_passed : Passed (signature_checks m)
+    sig_passed = converse (signature_checks m) ((13 + key_bytes m) ∷ signature_bytes m ∷ []) tt gave_sig
 
-      pub given_after : (a : Answer) {r : Answer} → r ≡ a → r ≡ answered (refusal (signature_checks m)) a
-      given_after a h = passed (signature_checks m) [] ((13 + key_bytes m) ∷ signature_bytes m ∷ []) a tt gave_sig (done a h)
+    pub sig_ends : f + s ≤ length m
+    sig_ends = rw (sig_at, sig_long) (room sig_passed)
 
-      pub p256 : s ≡ 64 → gives (256 ∷ []) ≡ ecdsa_function m
-      unfolding ecdsa_function ecdsa_functions
-      p256 h = given_after _ (ap (λ (n : ℕ). gives (size ecdsa_functions n ∷ [])) (sym h ∙ sig_long))
+    pub given_after : (a : Answer) {r : Answer} → r ≡ a → r ≡ answered (refusal (signature_checks m)) a
+    given_after a h = passed (signature_checks m) [] ((13 + key_bytes m) ∷ signature_bytes m ∷ []) a tt gave_sig (done a h)
 
-      pub p521 : (s ≡ 64 → ⊥) → gives (521 ∷ []) ≡ ecdsa_function m
-      unfolding ecdsa_function ecdsa_functions
-      p521 ne =
-          let h : signature_bytes m ≡ 132 =
-          signature_other (key_bytes m) (length m - (13 + key_bytes m)) (eqb-false (signature_bytes m) 0 sig_passed.1.1.1.0) (λ z. ne (sig_long ∙ z)) in
-          given_after _ (ap (λ (n : ℕ). gives (size ecdsa_functions n ∷ [])) (sym h))
+    pub p256 : s ≡ 64 → gives (256 ∷ []) ≡ ecdsa_function m
+    unfolding ecdsa_function ecdsa_functions
+    p256 h = given_after _ (ap (λ (n : ℕ). gives (size ecdsa_functions n ∷ [])) (sym h ∙ sig_long))
 
-      pub padding_given : {r : Answer} → r ≡ part m [] (f + s) (length m - (f + s)) → r ≡ padding_part m
-      unfolding padding_part
-      padding_given h = passed (signature_checks m) _ ((13 + key_bytes m) ∷ signature_bytes m ∷ []) _ tt gave_sig (rw (sig_at, sig_long) at h)
+    pub p521 : (s ≡ 64 → ⊥) → gives (521 ∷ []) ≡ ecdsa_function m
+    unfolding ecdsa_function ecdsa_functions
+    p521 ne =
+        let h : signature_bytes m ≡ 132 =
+        signature_other (key_bytes m) (length m - (13 + key_bytes m)) (eqb-false (signature_bytes m) 0 sig_passed.1.1.1.0) (λ z. ne (sig_long ∙ z)) in
+        given_after _ (ap (λ (n : ℕ). gives (size ecdsa_functions n ∷ [])) (sym h))
+
+    pub padding_given : {r : Answer} → r ≡ part m [] (f + s) (length m - (f + s)) → r ≡ padding_part m
+    unfolding padding_part
+    padding_given h = passed (signature_checks m) _ ((13 + key_bytes m) ∷ signature_bytes m ∷ []) _ tt gave_sig (rw (sig_at, sig_long) at h)

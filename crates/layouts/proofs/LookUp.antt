@@ -8,10 +8,13 @@ use native.Mathlib.Omega.{arith}
 use lib.Dec.{T, ltb, leb, eqb, eqb-suc-zero, leb→le, eqb→eq}
 use lib.ListN.{length, get_or, replicate, get_or-eq_default}
 use borrow.Author.Tests.{eq-eqb, ne_eqb, lt-ltb, le-ltb, le-leb, lt-leb}
-use Rattle.layouts.specs.Answer.{Answer, refused, gives, Copied, ◌when◌, refusal, answered}
+use Rattle.layouts.specs.Answer.{Answer, refused, gives, Copied, Check, ◌when◌, refusal, answered}
+use Rattle.layouts.specs.Refusals.{refusal_number}
+use Rattle.layouts.specs.declared.refusal.Refusal.{Refusal}
 use Rattle.layouts.specs.Maclt.{flex, Row, row, table, row_of, slots, numbers, entry, flx_of, padded, flx_checks, flx_indices, nt_of}
-use Rattle.layouts.specs.inner.Code.{coded_slots, row_number, flx_number, one_if_some}
-use Rattle.layouts.proofs.Answers.{stop, pass, done}
+use Rattle.layouts.specs.inner.Code.{coded_slots, row_number, flx_number, one_if_some, known_row}
+use Rattle.layouts.proofs.Answers.{stop, pass, done, refused_too, answer_of, converse}
+use Rattle.layouts.proofs.Readers.{first_of}
 use Rattle.layouts.proofs.Tables.{below, holds_below, both_left, both_right, every}
 
 -- The code's numbers, from its match.
@@ -169,6 +172,27 @@ module _ (k : ℕ) {x : ℕ} (e : x ≡ row_number (row_of k table)) where
   pub nt_some : (nt_in x ≡ 0 → ⊥) → (row_of k table).nt ≡ 0 → ⊥
   nt_some ne h = ne (nt_is ∙ h)
 
+-- the row of an ID, or 8
+pub row_refused : (k : ℕ) {x : ℕ} → x ≡ row_number (row_of k table) → nt_in x ≡ 0 → refused 8 ≡ known_row k
+row_refused k e h = stop 8 _ [] _ tt (eq-eqb (row_of k table).nt 0 (nt_none k e h))
+
+pub row_given : (k : ℕ) {x : ℕ} → x ≡ row_number (row_of k table) → (nt_in x ≡ 0 → ⊥) → gives (x ∷ []) ≡ known_row k
+row_given k e h = pass 8 _ [] _ (ne_eqb (row_of k table).nt 0 (nt_some k e h)) (done _ (ap (λ (n : ℕ). gives (n ∷ [])) e))
+
+differ : true ≡ false → ⊥
+differ e = let z : ◌≡◌ {A = ℕ} 1 0 = ap (λ b. cond b 1 0) e in absurd (omega arith)
+
+abbrev unknown_check : ℕ → Check
+unknown_check k = 8 when eqb (row_of k table).nt 0
+
+-- what a row that was given tells
+module _ (k : ℕ) {x : ℕ} (g : gives (x ∷ []) ≡ known_row k) where
+  pub known_is : x ≡ row_number (row_of k table)
+  known_is = first_of (answer_of (refusal (unknown_check k ∷ [])) (row_number (row_of k table) ∷ []) g)
+
+  pub known_some : nt_in x ≡ 0 → ⊥
+  known_some z = differ (sym (eq-eqb (row_of k table).nt 0 (nt_none k known_is z)) ∙ (converse (unknown_check k ∷ []) (row_number (row_of k table) ∷ []) tt g).0)
+
 -- The answers, each from the tests that lead to it.
 module _ (k m t : ℕ) where
   pub entry_message : 1 < m → refused 7 ≡ entry k m t
@@ -180,7 +204,7 @@ module _ (k m t : ℕ) where
     unfolding entry
     entry_tag e = pass 7 _ _ _ (le-ltb 1 m hm) (stop 7 _ _ _ tt (eq-eqb t 0 e))
 
-    module _ (h0 : t ≡ 0 → ⊥) {x : ℕ} (e : x ≡ row_number (row_of k table)) where
+    module _ (h0 : t ≡ 0 → ⊥) where
       -- what is asked is in range: what the other checks say
       then : {r : Answer}
           → r ≡ answered (refusal (8 when eqb (row_of k table).nt 0 ∷ 9 when leb (row_of k table).nt t ∷ []))
@@ -189,10 +213,16 @@ module _ (k m t : ℕ) where
       unfolding entry
       then h = pass 7 _ _ _ (le-ltb 1 m hm) (pass 7 _ _ _ (ne_eqb t 0 h0) h)
 
-      pub entry_unknown : nt_in x ≡ 0 → refused 8 ≡ entry k m t
-      entry_unknown h = then (stop 8 _ _ _ tt (eq-eqb _ 0 (nt_none k e h)))
+      pub entry_unknown : (f : Refusal) → refused (refusal_number f) ≡ known_row k → refused (refusal_number f) ≡ entry k m t
+      entry_unknown f h = then (refused_too (unknown_check k ∷ []) (9 when leb (row_of k table).nt t ∷ []) (row_number (row_of k table) ∷ []) _ h)
 
-      module _ (h : nt_in x ≡ 0 → ⊥) where
+      module _ {x : ℕ} (row_known : gives (x ∷ []) ≡ known_row k) where
+        e : x ≡ row_number (row_of k table)
+        e = known_is k row_known
+
+        h : nt_in x ≡ 0 → ⊥
+        h = known_some k row_known
+
         known : eqb (row_of k table).nt 0 ≡ false
         known = ne_eqb (row_of k table).nt 0 (nt_some k e h)
 
@@ -218,23 +248,29 @@ module _ (k m : ℕ) where
   unfolding refusal
   flx_message h = refused_bytes 6 (rw (lt-ltb 1 m h))
 
-  module _ (hm : m ≤ 1) {x : ℕ} (e : x ≡ row_number (row_of k table)) where
-    pub flx_unknown : nt_in x ≡ 0 → ◌≡◌ {A = Copied} (record { answer = refused 8; bytes = replicate 4 0 }) (flx_indices k m)
-    unfolding refusal
-    flx_unknown h = refused_bytes 7 (rw (le-ltb 1 m hm, eq-eqb (row_of k table).nt 0 (nt_none k e h)))
+  module _ (hm : m ≤ 1) where
+    pub flx_unknown : (f : Refusal) → refused (refusal_number f) ≡ known_row k
+        → ◌≡◌ {A = Copied} (record { answer = refused (refusal_number f); bytes = replicate 4 0 }) (flx_indices k m)
+    unfolding refusal answered
+    flx_unknown f h = go (eqb (row_of k table).nt 0) refl h
+      where
+        go : (b : Bool) → eqb (row_of k table).nt 0 ≡ b → refused (refusal_number f) ≡ answered (cond b 8 0) (gives (row_number (row_of k table) ∷ []))
+            → ◌≡◌ {A = Copied} (record { answer = refused (refusal_number f); bytes = replicate 4 0 }) (flx_indices k m)
+        go true e h = rw h (refused_bytes 7 (rw (le-ltb 1 m hm, e)))
+        go false e h = let z : ◌≡◌ {A = ℕ} 0 1 = cc in absurd (omega arith)
 
-    pub flx_given : {n y : ℕ} → (nt_in x ≡ 0 → ⊥) → y ≡ flx_number (row_of k table) → n ≡ count_in (half y m)
+    pub flx_given : {n x y : ℕ} → gives (x ∷ []) ≡ known_row k → y ≡ flx_number (row_of k table) → n ≡ count_in (half y m)
         → ◌≡◌ {A = Copied} (record { answer = gives (n ∷ []); bytes = four_in (half y m) }) (flx_indices k m)
     unfolding flx_indices answered refusal
-    flx_given h ey en =
-        rw (le-ltb 1 m hm, ne_eqb (row_of k table).nt 0 (nt_some k e h), en, ey, four_rule k m hm, count_rule k m hm)
+    flx_given g ey en =
+        rw (le-ltb 1 m hm, ne_eqb (row_of k table).nt 0 (nt_some k (known_is k g) (known_some k g)), en, ey, four_rule k m hm, count_rule k m hm)
 
-pub nt_unknown : (k : ℕ) {x : ℕ} → x ≡ row_number (row_of k table) → nt_in x ≡ 0 → refused 8 ≡ nt_of k
+pub nt_unknown : (k : ℕ) (f : Refusal) → refused (refusal_number f) ≡ known_row k → refused (refusal_number f) ≡ nt_of k
 unfolding nt_of
-nt_unknown k e h = stop 8 _ _ _ tt (eq-eqb (row_of k table).nt 0 (nt_none k e h))
+nt_unknown k f h = refused_too (unknown_check k ∷ []) [] (row_number (row_of k table) ∷ []) _ h
 
-pub nt_given : (k : ℕ) {x : ℕ} → x ≡ row_number (row_of k table) → (nt_in x ≡ 0 → ⊥) → gives (nt_in x ∷ []) ≡ nt_of k
+pub nt_given : (k : ℕ) {x : ℕ} → gives (x ∷ []) ≡ known_row k → gives (nt_in x ∷ []) ≡ nt_of k
 unfolding nt_of
-nt_given k {x} e h =
-    pass 8 _ _ _ (ne_eqb (row_of k table).nt 0 (nt_some k e h))
-    (done _ (rw (nt_is k e)))
+nt_given k {x} g =
+    pass 8 _ _ _ (ne_eqb (row_of k table).nt 0 (nt_some k (known_is k g) (known_some k g)))
+    (done _ (rw (nt_is k (known_is k g))))

@@ -10,11 +10,11 @@ use borrow.Author.Tests.{ltb-false, lt-ltb, le-ltb, eq-eqb, ne_eqb}
 use Rattle.layouts.specs.Answer.{refused, gives, Check, ◌when◌, refusal, part}
 use Rattle.layouts.specs.Bits.{Field, value, reach, read}
 use Rattle.layouts.specs.Sizes.{read_size, Named, ◌named◌, naming, read_name}
-use Rattle.layouts.specs.Meaning.{meaning_number, meaning_part}
-use Rattle.layouts.specs.declared.answer.Number.{Number}
-use Rattle.layouts.specs.declared.answer.Number.TheVariants.{Value, Refused}
-use Rattle.layouts.specs.declared.answer.Part.{Part}
-use Rattle.layouts.specs.declared.answer.Part.TheVariants.{Shown, Refused as NotShown}
+use Rattle.layouts.specs.Meaning.{meaning_part}
+use Rattle.layouts.specs.Refusals.{refusal_number}
+use Rattle.layouts.specs.declared.part.Part.{Part}
+use Rattle.layouts.specs.declared.refusal.Refusal.{Refusal}
+use Rattle.std.specs.Prelude.{Result, Ok, Err}
 use Rattle.layouts.specs.inner.Code.{Inside}
 use Rattle.layouts.proofs.Answers.{stop, pass, done, refused_too, passed, answer_of, converse, numbered, passed_last}
 use Rattle.layouts.proofs.Fields.{field_lt}
@@ -33,10 +33,7 @@ pub name_miss : (n : ℕ) (s : String) (names : List Named) {v : ℕ} {l : List 
 name_miss n s names {v} ne h = rw (ne_eqb v n ne) h
 
 -- a field that was read
-module _ (f : Field) (m : List ℕ) {x : Number} {v : ℕ} (e : meaning_number x ≡ read f m) (g : x ≡ Value v) where
-  gave : gives (v ∷ []) ≡ read f m
-  gave = rw g at e
-
+module _ (f : Field) (m : List ℕ) {v : ℕ} (gave : gives (v ∷ []) ≡ read f m) where
   pub read_value : v ≡ value f m
   read_value = first_of (answer_of (refusal (reach f m ∷ [])) (value f m ∷ []) gave)
 
@@ -63,13 +60,13 @@ module _ (f : Field) (m : List ℕ) {x : Number} {v : ℕ} (e : meaning_number x
       passed (reach f m ∷ []) [] (value f m ∷ []) _ tt gave (done _ (ap gives (h ∙ ap (naming names) read_value)))
 
 -- the field was not there
-pub name_refused : (f : Field) (m : List ℕ) (names : List Named) {x : Number} {n : ℕ} → meaning_number x ≡ read f m → x ≡ Refused n
-    → refused n ≡ read_name f names m
-name_refused f m names e g = refused_too (reach f m ∷ []) [] (value f m ∷ []) _ (rw g at e)
+pub name_refused : (f : Field) (m : List ℕ) (names : List Named) (e : Refusal) → refused (refusal_number e) ≡ read f m
+    → refused (refusal_number e) ≡ read_name f names m
+name_refused f m names e h = refused_too (reach f m ∷ []) [] (value f m ∷ []) _ h
 
-pub size_refused : (f : Field) (m : List ℕ) (size : ℕ → ℕ) {x : Number} {n : ℕ} → meaning_number x ≡ read f m → x ≡ Refused n
-    → refused n ≡ read_size f size m
-size_refused f m size e g = refused_too (reach f m ∷ []) (6 when eqb (size (value f m)) 0 ∷ []) (value f m ∷ []) _ (rw g at e)
+pub size_refused : (f : Field) (m : List ℕ) (size : ℕ → ℕ) (e : Refusal) → refused (refusal_number e) ≡ read f m
+    → refused (refusal_number e) ≡ read_size f size m
+size_refused f m size e h = refused_too (reach f m ∷ []) (6 when eqb (size (value f m)) 0 ∷ []) (value f m ∷ []) _ h
 
 -- a part that ends past the message, or within it
 module _ (m : List ℕ) (first many : ℕ) where
@@ -94,7 +91,7 @@ module _ (m : List ℕ) (first many : ℕ) where
     part_inside t = rw (part_first, part_many) (part_ends t)
 
 -- what the code's answer is of a part lies within the message
-pub inside_part : (p : Part) (m : List ℕ) (first many : ℕ) (checks : List Check) → T (numbered (checks ++ (5 when ltb (length m) (first + many) ∷ [])))
-    → meaning_part p ≡ part m checks first many → Inside p (length m)
-inside_part (Shown f n) m first many checks t e = part_inside m first many checks e t
-inside_part (NotShown n) m first many checks t e = tt
+pub inside_part : (r : Result Part Refusal) (m : List ℕ) (first many : ℕ) (checks : List Check)
+    → T (numbered (checks ++ (5 when ltb (length m) (first + many) ∷ []))) → meaning_part r ≡ part m checks first many → Inside r (length m)
+inside_part (Ok p) m first many checks t e = part_inside m first many checks e t
+inside_part (Err n) m first many checks t e = tt

@@ -22,15 +22,15 @@ module _ (satellite : ℕ) where
     satellite_fits u = rw (le-ltb satellite 1 l, le-ltb 36 satellite u)
 
 module _ (week time : ℕ) where
-  week_off : 4095 < week → 3 ≡ refusal (gst_checks week time)
+  pub week_off : 4095 < week → 3 ≡ refusal (gst_checks week time)
   unfolding refusal
   week_off h = rw (lt-ltb 4095 week h)
 
-  time_off : week ≤ 4095 → 604799 < time → 4 ≡ refusal (gst_checks week time)
+  pub time_off : week ≤ 4095 → 604799 < time → 4 ≡ refusal (gst_checks week time)
   unfolding refusal
   time_off v h = rw (le-ltb 4095 week v, lt-ltb 604799 time h)
 
-  time_on : week ≤ 4095 → time ≤ 604799 → 0 ≡ refusal (gst_checks week time)
+  pub time_on : week ≤ 4095 → time ≤ 604799 → 0 ≡ refusal (gst_checks week time)
   unfolding refusal
   time_on v h = rw (le-ltb 4095 week v, le-ltb 604799 time h)
 

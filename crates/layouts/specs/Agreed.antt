@@ -3,6 +3,8 @@
 use Rattle.std.specs.Prelude.{ℕ, List}
 use Rattle.layouts.specs.Agree.{Agree, AgreeWith}
 use Rattle.layouts.specs.BitReader.{ReadBits}
+use Rattle.layouts.specs.Refusals.{RefusalNumber}
+use Rattle.layouts.specs.declared.refusal.Refusal.{Refusal}
 use Rattle.layouts.specs.Numbers.{Wide, Smaller}
 use Rattle.layouts.specs.Gst.{SvnRefuses, GstRefuses}
 use Rattle.layouts.specs.InavPage.{PageKindRead, OsnmaRead}
@@ -15,6 +17,7 @@ use Rattle.layouts.specs.MacltPromises.{MacltEntryRead, FlxIndicesRead, NtRead}
 
 pub record Agreed : Type 0 where
   pub wide : (x : ℕ) → Agree (Wide x)
+  pub refusal_number_lem : (e : Refusal) → Agree (RefusalNumber e)
   pub smaller : (a b : ℕ) → Agree (Smaller a b)
   pub svn_refuses : (satellite : ℕ) → Agree (SvnRefuses satellite)
   pub gst_refuses : (satellite week time : ℕ) → Agree (GstRefuses satellite week time)

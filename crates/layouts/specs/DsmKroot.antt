@@ -1,15 +1,15 @@
 -- DSM-KROOT: document 01, "DSM fields". The field names are those of the Rust's comments, WNK and TOWHK with an underscore. (The ICD was not at hand.)
 -- Assumes nothing.
-use Rattle.std.specs.Prelude.{ℕ, ◌+◌, ◌-◌, ◌%◌, List, [], ◌∷◌, ◌++◌, ◌≡◌, cond, length, ltb, eqb}
+use Rattle.std.specs.Prelude.{ℕ, ◌+◌, ◌-◌, ◌%◌, List, [], ◌∷◌, ◌++◌, ◌≡◌, cond, length, ltb, eqb, Result}
+use Rattle.layouts.specs.declared.refusal.Refusal.{Refusal}
 use Rattle.layouts.specs.Answer.{Answer, gives, Check, ◌when◌, refusal, answered, part, shown}
 use Rattle.layouts.specs.Bits.{Field, row, the, value, reach, read}
 use Rattle.layouts.specs.Sizes.{size, kroot_blocks, key_sizes, tag_sizes, read_size, hash_functions, mac_functions, ecdsa_functions, read_name}
 use Rattle.layouts.specs.Meaning.{meaning_number, meaning_part, meaning_hash, meaning_mac, meaning_ecdsa}
-use Rattle.layouts.specs.declared.answer.Number.{Number}
-use Rattle.layouts.specs.declared.answer.Part.{Part}
-use Rattle.layouts.specs.declared.dsm_kroot.HashFunctionAnswer.{HashFunctionAnswer}
-use Rattle.layouts.specs.declared.dsm_kroot.MacFunctionAnswer.{MacFunctionAnswer}
-use Rattle.layouts.specs.declared.dsm_kroot.EcdsaFunctionAnswer.{EcdsaFunctionAnswer}
+use Rattle.layouts.specs.declared.part.Part.{Part}
+use Rattle.layouts.specs.declared.dsm_kroot.HashFunction.{HashFunction}
+use Rattle.layouts.specs.declared.dsm_kroot.MacFunction.{MacFunction}
+use Rattle.layouts.specs.declared.dsm_kroot.EcdsaFunction.{EcdsaFunction}
 
 -- The layout, as far as no size moves it: field, first bit, width. The key starts at byte 13.
 abbrev pub kroot_layout : List Field
@@ -30,46 +30,46 @@ kroot_layout =
     []
 
 -- The plain fields.
-abbrev pub NumberOfBlocks : List ℕ → Number → Type 0
+abbrev pub NumberOfBlocks : List ℕ → Result ℕ Refusal → Type 0
 NumberOfBlocks m r = meaning_number r ≡ read_size (the "NB_DK" kroot_layout) (size kroot_blocks) m
 
-abbrev pub PublicKeyId : List ℕ → Number → Type 0
+abbrev pub PublicKeyId : List ℕ → Result ℕ Refusal → Type 0
 PublicKeyId m r = meaning_number r ≡ read (the "PKID" kroot_layout) m
 
-abbrev pub KrootChainId : List ℕ → Number → Type 0
+abbrev pub KrootChainId : List ℕ → Result ℕ Refusal → Type 0
 KrootChainId m r = meaning_number r ≡ read (the "CIDKR" kroot_layout) m
 
-abbrev pub HashFunctionNumber : List ℕ → Number → Type 0
+abbrev pub HashFunctionNumber : List ℕ → Result ℕ Refusal → Type 0
 HashFunctionNumber m r = meaning_number r ≡ read (the "HF" kroot_layout) m
 
-abbrev pub HashFunctionRead : List ℕ → HashFunctionAnswer → Type 0
+abbrev pub HashFunctionRead : List ℕ → Result HashFunction Refusal → Type 0
 HashFunctionRead m r = meaning_hash r ≡ read_name (the "HF" kroot_layout) hash_functions m
 
-abbrev pub MacFunctionNumber : List ℕ → Number → Type 0
+abbrev pub MacFunctionNumber : List ℕ → Result ℕ Refusal → Type 0
 MacFunctionNumber m r = meaning_number r ≡ read (the "MF" kroot_layout) m
 
-abbrev pub MacFunctionRead : List ℕ → MacFunctionAnswer → Type 0
+abbrev pub MacFunctionRead : List ℕ → Result MacFunction Refusal → Type 0
 MacFunctionRead m r = meaning_mac r ≡ read_name (the "MF" kroot_layout) mac_functions m
 
 -- request 9: "The KROOT reader shall promise bytes"
-abbrev pub KeySize : List ℕ → Number → Type 0
+abbrev pub KeySize : List ℕ → Result ℕ Refusal → Type 0
 KeySize m r = meaning_number r ≡ read_size (the "KS" kroot_layout) (size key_sizes) m
 
 -- "Tag sizes stay in bits, since 20 and 28 aren't whole bytes."
-abbrev pub TagSize : List ℕ → Number → Type 0
+abbrev pub TagSize : List ℕ → Result ℕ Refusal → Type 0
 TagSize m r = meaning_number r ≡ read_size (the "TS" kroot_layout) (size tag_sizes) m
 
-abbrev pub MacLookupTable : List ℕ → Number → Type 0
+abbrev pub MacLookupTable : List ℕ → Result ℕ Refusal → Type 0
 MacLookupTable m r = meaning_number r ≡ read (the "MACLT" kroot_layout) m
 
-abbrev pub KrootWn : List ℕ → Number → Type 0
+abbrev pub KrootWn : List ℕ → Result ℕ Refusal → Type 0
 KrootWn m r = meaning_number r ≡ read (the "WN_K" kroot_layout) m
 
 -- in hours
-abbrev pub KrootTowh : List ℕ → Number → Type 0
+abbrev pub KrootTowh : List ℕ → Result ℕ Refusal → Type 0
 KrootTowh m r = meaning_number r ≡ read (the "TOWH_K" kroot_layout) m
 
-abbrev pub Alpha : List ℕ → Number → Type 0
+abbrev pub Alpha : List ℕ → Result ℕ Refusal → Type 0
 Alpha m r = meaning_number r ≡ read (the "alpha" kroot_layout) m
 
 -- "key from byte 13. With k key bytes, .."
@@ -110,22 +110,22 @@ unfoldable pub padding_part : List ℕ → Answer
 padding_part m =
     part m (signature_checks m) (13 + key_bytes m + signature_bytes m) (length m - (13 + key_bytes m + signature_bytes m))
 
-abbrev pub EcdsaFunctionRead : List ℕ → EcdsaFunctionAnswer → Type 0
+abbrev pub EcdsaFunctionRead : List ℕ → Result EcdsaFunction Refusal → Type 0
 EcdsaFunctionRead m r = meaning_ecdsa r ≡ ecdsa_function m
 
-abbrev pub KrootShown : List ℕ → Part → Type 0
+abbrev pub KrootShown : List ℕ → Result Part Refusal → Type 0
 KrootShown m r = meaning_part r ≡ kroot_part m
 
 abbrev pub Kroot : List ℕ → List ℕ → Type 0
 Kroot m r = r ≡ shown m (kroot_part m)
 
-abbrev pub DigitalSignatureShown : List ℕ → Part → Type 0
+abbrev pub DigitalSignatureShown : List ℕ → Result Part Refusal → Type 0
 DigitalSignatureShown m r = meaning_part r ≡ signature_part m
 
 abbrev pub DigitalSignature : List ℕ → List ℕ → Type 0
 DigitalSignature m r = r ≡ shown m (signature_part m)
 
-abbrev pub PaddingShown : List ℕ → Part → Type 0
+abbrev pub PaddingShown : List ℕ → Result Part Refusal → Type 0
 PaddingShown m r = meaning_part r ≡ padding_part m
 
 abbrev pub Padding : List ℕ → List ℕ → Type 0

@@ -1,13 +1,14 @@
 -- DSM-PKR: document 01, "DSM fields". The field names are those of the Rust's comments; ITN, NPK and P_DP are named alike. (The ICD was not at hand.)
 -- Assumes nothing.
-use Rattle.std.specs.Prelude.{ℕ, ◌+◌, ◌-◌, ◌*◌, List, [], ◌∷◌, ◌++◌, ◌≡◌, ltb, eqb}
+use Rattle.std.specs.Prelude.{ℕ, ◌+◌, ◌-◌, ◌*◌, List, [], ◌∷◌, ◌++◌, ◌≡◌, ltb, eqb, Result, Option}
+use Rattle.layouts.specs.declared.refusal.Refusal.{Refusal}
 use Rattle.layouts.specs.Answer.{Answer, Check, ◌when◌, part, shown, Copied, copied}
 use Rattle.layouts.specs.Bits.{Field, row, the, value, reach, read}
-use Rattle.layouts.specs.Sizes.{Size, ◌⟶◌, size, pkr_blocks, read_size, key_types, read_name}
-use Rattle.layouts.specs.Meaning.{meaning_number, meaning_part, meaning_key_type}
-use Rattle.layouts.specs.declared.answer.Number.{Number}
-use Rattle.layouts.specs.declared.answer.Part.{Part}
-use Rattle.layouts.specs.declared.dsm_pkr.NewPublicKeyTypeAnswer.{NewPublicKeyTypeAnswer}
+use Rattle.layouts.specs.Sizes.{Size, ◌⟶◌, size, unless_0, pkr_blocks, read_size, key_types, read_name}
+use Rattle.layouts.specs.Refusals.{with_bytes}
+use Rattle.layouts.specs.Meaning.{meaning_number, meaning_part, meaning_key_type, part_numbers}
+use Rattle.layouts.specs.declared.part.Part.{Part}
+use Rattle.layouts.specs.declared.dsm_pkr.NewPublicKeyType.{NewPublicKeyType}
 use Rattle.layouts.specs.declared.dsm_pkr.TreeNode.{TreeNode}
 
 -- The layout, as far as no size moves it: field, first bit, width. The key starts at byte 130.
@@ -24,28 +25,28 @@ pkr_layout =
     []
 
 -- The plain fields.
-abbrev pub NumberOfBlocks : List ℕ → Number → Type 0
+abbrev pub NumberOfBlocks : List ℕ → Result ℕ Refusal → Type 0
 NumberOfBlocks m r = meaning_number r ≡ read_size (the "NB_DP" pkr_layout) (size pkr_blocks) m
 
-abbrev pub MessageId : List ℕ → Number → Type 0
+abbrev pub MessageId : List ℕ → Result ℕ Refusal → Type 0
 MessageId m r = meaning_number r ≡ read (the "MID" pkr_layout) m
 
-abbrev pub NewPublicKeyTypeNumber : List ℕ → Number → Type 0
+abbrev pub NewPublicKeyTypeNumber : List ℕ → Result ℕ Refusal → Type 0
 NewPublicKeyTypeNumber m r = meaning_number r ≡ read (the "NPKT" pkr_layout) m
 
-abbrev pub NewPublicKeyTypeRead : List ℕ → NewPublicKeyTypeAnswer → Type 0
+abbrev pub NewPublicKeyTypeRead : List ℕ → Result NewPublicKeyType Refusal → Type 0
 NewPublicKeyTypeRead m r = meaning_key_type r ≡ read_name (the "NPKT" pkr_layout) key_types m
 
-abbrev pub NewPublicKeyId : List ℕ → Number → Type 0
+abbrev pub NewPublicKeyId : List ℕ → Result ℕ Refusal → Type 0
 NewPublicKeyId m r = meaning_number r ≡ read (the "NPKID" pkr_layout) m
 
 -- "four 32-byte tree nodes from byte 1 (each returned as 32 bytes by value; node above 3 is 7)"
 unfoldable pub node_part : List ℕ → ℕ → Answer
 node_part m n = part m (7 when ltb 3 n ∷ []) (1 + 32 * n) 32
 
-abbrev pub IntermediateTreeNode : List ℕ → ℕ → TreeNode → Type 0
+abbrev pub IntermediateTreeNode : List ℕ → ℕ → Result TreeNode Refusal → Type 0
 IntermediateTreeNode m n r =
-    ◌≡◌ {A = Copied} (record { answer = meaning_part r.answer; bytes = r.bytes }) (copied 32 m (node_part m n))
+    ◌≡◌ {A = Copied} (with_bytes 32 (λ (t : TreeNode). part_numbers t.part) (λ (t : TreeNode). t.bytes) r) (copied 32 m (node_part m n))
 
 -- "Type 1: 33 bytes; 3: 67; 4: 13 x count - 130; for others key, padding and leaf refuse 6":
 -- an alert has no size either where the count is reserved, which is a count of 0 here
@@ -61,12 +62,12 @@ key_bytes m = size (new_key_sizes (count m)) (value (the "NPKT" pkr_layout) m)
 abbrev pub key_checks : List ℕ → List Check
 key_checks m = reach (the "NPKT" pkr_layout) m ∷ 6 when eqb (key_bytes m) 0 ∷ []
 
--- the size of a key by its type and the number of blocks; 0 where it is reserved
-abbrev pub KeyLength : ℕ → ℕ → ℕ → Type 0
-KeyLength type blocks r = r ≡ size (new_key_sizes blocks) type
+-- the size of a key by its type and the number of blocks; none where it is reserved
+abbrev pub KeyLength : ℕ → ℕ → Option ℕ → Type 0
+KeyLength type blocks r = r ≡ unless_0 (size (new_key_sizes blocks) type)
 
 -- in bytes
-abbrev pub KeySize : List ℕ → Number → Type 0
+abbrev pub KeySize : List ℕ → Result ℕ Refusal → Type 0
 KeySize m r = meaning_number r ≡ read_size (the "NPKT" pkr_layout) (size (new_key_sizes (count m))) m
 
 -- "key from byte 130"
@@ -84,19 +85,19 @@ padding_checks m = key_checks m ++ (6 when eqb (count m) 0 ∷ 11 when ltb (13 *
 unfoldable pub padding_part : List ℕ → Answer
 padding_part m = part m (padding_checks m) (130 + key_bytes m) (13 * count m - (130 + key_bytes m))
 
-abbrev pub NewPublicKeyShown : List ℕ → Part → Type 0
+abbrev pub NewPublicKeyShown : List ℕ → Result Part Refusal → Type 0
 NewPublicKeyShown m r = meaning_part r ≡ new_key_part m
 
 abbrev pub NewPublicKey : List ℕ → List ℕ → Type 0
 NewPublicKey m r = r ≡ shown m (new_key_part m)
 
-abbrev pub MerkleTreeLeafShown : List ℕ → Part → Type 0
+abbrev pub MerkleTreeLeafShown : List ℕ → Result Part Refusal → Type 0
 MerkleTreeLeafShown m r = meaning_part r ≡ leaf_part m
 
 abbrev pub MerkleTreeLeaf : List ℕ → List ℕ → Type 0
 MerkleTreeLeaf m r = r ≡ shown m (leaf_part m)
 
-abbrev pub PaddingShown : List ℕ → Part → Type 0
+abbrev pub PaddingShown : List ℕ → Result Part Refusal → Type 0
 PaddingShown m r = meaning_part r ≡ padding_part m
 
 abbrev pub Padding : List ℕ → List ℕ → Type 0

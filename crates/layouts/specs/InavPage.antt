@@ -1,12 +1,13 @@
 -- The I/NAV page of 30 bytes, even part then odd part: document 01, "Page replay". Bits 0, 1, 120, 121 and 138..177 are document 01's;
 -- the other rows are the page's plain ones, and a page from the air has them so (docs/DIFFERENCES.md).
 -- Assumes nothing.
-use Rattle.std.specs.Prelude.{ℕ, List, [], ◌∷◌, Bool, cond, not, ◌&&◌, ◌≡◌, length, replicate, eqb}
+use Rattle.std.specs.Prelude.{ℕ, List, [], ◌∷◌, Bool, cond, not, ◌&&◌, ◌≡◌, length, replicate, eqb, Result}
+use Rattle.layouts.specs.declared.refusal.Refusal.{Refusal}
 use Rattle.layouts.specs.Answer.{Answer, nothing, gives, Check, ◌when◌, refusal, answered, Copied, answered_with}
 use Rattle.layouts.specs.Bits.{bit, bytes_from, Field, row, the}
-use Rattle.layouts.specs.Meaning.{meaning_page_kind, meaning_copy}
+use Rattle.layouts.specs.Refusals.{with_bytes}
+use Rattle.layouts.specs.Meaning.{meaning_page_kind}
 use Rattle.layouts.specs.declared.inav_page.PageKind.{PageKind}
-use Rattle.layouts.specs.declared.inav_page.OsnmaField.{OsnmaField}
 
 -- field, first bit, width
 abbrev pub inav_page : List Field
@@ -50,12 +51,12 @@ page_checks page = 1 when not (eqb (length page) 30) ∷ []
 abbrev pub page_kind : List ℕ → Answer
 page_kind page = answered (refusal (page_checks page)) (cond (is_counted page) (gives []) nothing)
 
-abbrev pub PageKindRead : List ℕ → PageKind → Type 0
+abbrev pub PageKindRead : List ℕ → Result PageKind Refusal → Type 0
 PageKindRead page r = meaning_page_kind r ≡ page_kind page
 
 -- the five bytes by value, zeros where refused
 abbrev pub osnma_copied : List ℕ → Copied
 osnma_copied page = answered_with (page_checks page) (gives []) (osnma page) (replicate 5 0)
 
-abbrev pub OsnmaRead : List ℕ → OsnmaField → Type 0
-OsnmaRead page r = ◌≡◌ {A = Copied} (record { answer = meaning_copy r.answer; bytes = r.bytes }) (osnma_copied page)
+abbrev pub OsnmaRead : List ℕ → Result (List ℕ) Refusal → Type 0
+OsnmaRead page r = ◌≡◌ {A = Copied} (with_bytes 5 (λ _. []) (λ b. b) r) (osnma_copied page)

@@ -1,4 +1,5 @@
 pub mod Answer
+pub mod Refusals
 pub mod Lists
 pub mod Numbers
 pub mod Agree

@@ -1,14 +1,13 @@
 -- MACK messages: document 01, "MACK". The field names are those of the Rust's comments. Key sizes are in bytes (request 9), tag sizes in bits: K is 8 k.
 -- Assumes nothing.
-use Rattle.std.specs.Prelude.{ℕ, zero, suc, ◌+◌, ◌-◌, ◌*◌, ◌/◌, List, [], ◌∷◌, ◌++◌, map, Bool, true, false, cond, not, ◌≡◌, length, ltb, leb, eqb}
+use Rattle.std.specs.Prelude.{ℕ, zero, suc, ◌+◌, ◌-◌, ◌*◌, ◌/◌, List, [], ◌∷◌, ◌++◌, map, Bool, true, false, cond, not, ◌≡◌, length, ltb, leb, eqb, Result, ⊤}
+use Rattle.layouts.specs.declared.refusal.Refusal.{Refusal}
 use Rattle.layouts.specs.Answer.{Answer, gives, Check, ◌when◌, refusal, answered, Copied, answered_with}
 use Rattle.layouts.specs.Bits.{Field, row, the, value, bytes_from}
 use Rattle.layouts.specs.Sizes.{Size, key_sizes, tag_sizes, naming, adkds}
-use Rattle.layouts.specs.Meaning.{meaning_number, meaning_prnd, meaning_adkd, meaning_copy}
-use Rattle.layouts.specs.declared.answer.Number.{Number}
-use Rattle.layouts.specs.declared.answer.Copy.{Copy}
-use Rattle.layouts.specs.declared.tag_info.PrndAnswer.{PrndAnswer}
-use Rattle.layouts.specs.declared.tag_info.AdkdAnswer.{AdkdAnswer}
+use Rattle.layouts.specs.Meaning.{meaning_number, meaning_prnd, meaning_adkd, meaning_done}
+use Rattle.layouts.specs.declared.tag_info.Prnd.{Prnd}
+use Rattle.layouts.specs.declared.tag_info.Adkd.{Adkd}
 
 -- whether a size is one that some code stands for
 unfoldable pub listed : ℕ → List ℕ → Bool
@@ -60,44 +59,48 @@ read_header f m k T = answered (refusal (mack_checks m k T)) (gives (value f m �
 abbrev pub read_tag : Field → List ℕ → ℕ → ℕ → ℕ → Answer
 read_tag f m k T n = answered (refusal (tag_checks m k T n)) (gives (value f m ∷ []))
 
-abbrev pub NumTags : ℕ → ℕ → Number → Type 0
+-- any field of a tag's info, so many bits behind the tag's end
+abbrev pub InfoRead : List ℕ → ℕ → ℕ → ℕ → ℕ → ℕ → Result ℕ Refusal → Type 0
+InfoRead m k T n first width r = meaning_number r ≡ read_tag (row "Info" (n * (T + 16) + T + first) width) m k T n
+
+abbrev pub NumTags : ℕ → ℕ → Result ℕ Refusal → Type 0
 NumTags k T r = meaning_number r ≡ answered (refusal (size_checks k T)) (gives (nt k T ∷ []))
 
-abbrev pub Tag0 : List ℕ → ℕ → ℕ → Number → Type 0
+abbrev pub Tag0 : List ℕ → ℕ → ℕ → Result ℕ Refusal → Type 0
 Tag0 m k T r = meaning_number r ≡ read_header (the "Tag0" (header_layout T)) m k T
 
-abbrev pub Macseq : List ℕ → ℕ → ℕ → Number → Type 0
+abbrev pub Macseq : List ℕ → ℕ → ℕ → Result ℕ Refusal → Type 0
 Macseq m k T r = meaning_number r ≡ read_header (the "MACSEQ" (header_layout T)) m k T
 
-abbrev pub Cop : List ℕ → ℕ → ℕ → Number → Type 0
+abbrev pub Cop : List ℕ → ℕ → ℕ → Result ℕ Refusal → Type 0
 Cop m k T r = meaning_number r ≡ read_header (the "COP" (header_layout T)) m k T
 
-abbrev pub Tag : List ℕ → ℕ → ℕ → ℕ → Number → Type 0
+abbrev pub Tag : List ℕ → ℕ → ℕ → ℕ → Result ℕ Refusal → Type 0
 Tag m k T n r = meaning_number r ≡ read_tag (the "Tag" (tag_layout T n)) m k T n
 
-abbrev pub TagInfo : List ℕ → ℕ → ℕ → ℕ → Number → Type 0
+abbrev pub TagInfo : List ℕ → ℕ → ℕ → ℕ → Result ℕ Refusal → Type 0
 TagInfo m k T n r = meaning_number r ≡ read_tag (tag_info T n) m k T n
 
-abbrev pub PrndNumber : List ℕ → ℕ → ℕ → ℕ → Number → Type 0
+abbrev pub PrndNumber : List ℕ → ℕ → ℕ → ℕ → Result ℕ Refusal → Type 0
 PrndNumber m k T n r = meaning_number r ≡ read_tag (the "PRND" (tag_layout T n)) m k T n
 
-abbrev pub AdkdNumber : List ℕ → ℕ → ℕ → ℕ → Number → Type 0
+abbrev pub AdkdNumber : List ℕ → ℕ → ℕ → ℕ → Result ℕ Refusal → Type 0
 AdkdNumber m k T n r = meaning_number r ≡ read_tag (the "ADKD" (tag_layout T n)) m k T n
 
-abbrev pub TagCop : List ℕ → ℕ → ℕ → ℕ → Number → Type 0
+abbrev pub TagCop : List ℕ → ℕ → ℕ → ℕ → Result ℕ Refusal → Type 0
 TagCop m k T n r = meaning_number r ≡ read_tag (the "COP" (tag_layout T n)) m k T n
 
 -- "(1..36 satellite, 255 constellation, else Reserved)": 1 and the number for a satellite, 255 for the constellation, no number for Reserved
 unfoldable pub prnd_name : ℕ → List ℕ
 prnd_name v = cond (ltb v 1) [] (cond (leb v 36) (1 ∷ v ∷ []) (cond (eqb v 255) (255 ∷ []) []))
 
-abbrev pub PrndRead : List ℕ → ℕ → ℕ → ℕ → PrndAnswer → Type 0
+abbrev pub PrndRead : List ℕ → ℕ → ℕ → ℕ → Result Prnd Refusal → Type 0
 PrndRead m k T n r =
     meaning_prnd r
     ≡ answered (refusal (tag_checks m k T n)) (gives (prnd_name (value (the "PRND" (tag_layout T n)) m)))
 
 -- "(0, 4, 12, else Reserved)"
-abbrev pub AdkdRead : List ℕ → ℕ → ℕ → ℕ → AdkdAnswer → Type 0
+abbrev pub AdkdRead : List ℕ → ℕ → ℕ → ℕ → Result Adkd Refusal → Type 0
 AdkdRead m k T n r =
     meaning_adkd r
     ≡ answered (refusal (tag_checks m k T n)) (gives (naming adkds (value (the "ADKD" (tag_layout T n)) m)))
@@ -126,6 +129,6 @@ mack_layout k T =
 unfoldable pub key_copied : List ℕ → ℕ → ℕ → List ℕ → Copied
 key_copied m k T out = answered_with (key_checks m k T out) (gives []) (bytes_from m (key_start k T) k) out
 
-abbrev pub Key : List ℕ → ℕ → ℕ → List ℕ → Copy → List ℕ → Type 0
+abbrev pub Key : List ℕ → ℕ → ℕ → List ℕ → Result ⊤ Refusal → List ℕ → Type 0
 Key m k T out r after =
-    ◌≡◌ {A = Copied} (record { answer = meaning_copy r; bytes = after }) (key_copied m k T out)
+    ◌≡◌ {A = Copied} (record { answer = meaning_done r; bytes = after }) (key_copied m k T out)

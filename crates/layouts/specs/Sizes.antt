@@ -1,6 +1,6 @@
 -- What the codes of a field stand for: document 01, "DSM fields", "MACK", "A DSM from its blocks".
 -- Assumes nothing.
-use Rattle.std.specs.Prelude.{ℕ, List, [], ◌∷◌, cond, eqb}
+use Rattle.std.specs.Prelude.{ℕ, List, [], ◌∷◌, cond, eqb, Option, Some, None}
 use Prim.Native.String.{String}
 use Rattle.layouts.specs.Answer.{Answer, gives, ◌when◌, refusal, answered}
 use Rattle.layouts.specs.Bits.{Field, value, reach}
@@ -19,6 +19,10 @@ c ⟶ n = record { code = c; stands_for = n }
 abbrev pub size : List Size → ℕ → ℕ
 size [] c = 0
 size (s ∷ ss) c = cond (eqb c s.code) s.stands_for (size ss c)
+
+-- a size or count; none where it is 0
+abbrev pub unless_0 : ℕ → Option ℕ
+unless_0 n = cond (eqb n 0) None (Some n)
 
 -- "KROOT 1..8 gives 7..14" blocks
 unfoldable pub kroot_blocks : List Size

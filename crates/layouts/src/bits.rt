@@ -1,14 +1,11 @@
 // Fields: numbers made of runs of bits. Bit 0 is the high bit of byte 0.
 ghost use Rattle.std.specs.Prelude.{◌≡◌, ◌+◌, ◌*◌, ◌^◌, ◌≤◌, ◌<◌, [], ◌∷◌, length, get_or};
-ghost use Rattle.layouts.specs.Answer.{part as part_of, shown as shown_of};
 ghost use Rattle.layouts.specs.Bits.{field, row, value, read};
 ghost use Rattle.layouts.specs.Sizes.{read_size};
-ghost use Rattle.layouts.specs.Meaning.{meaning_number, meaning_part};
+ghost use Rattle.layouts.specs.Meaning.{meaning_number};
 ghost use Rattle.layouts.specs.BitReader.{ReadBits};
-ghost use Rattle.layouts.specs.inner.Code.{Inside};
 
-use crate::answer::{Number, Part};
-use crate::numbers::wide;
+use crate::refusal::Refusal;
 
 // A row of a layout: a field's first bit and its width in bits.
 #[derive(Clone, Copy)]
@@ -31,10 +28,8 @@ fn bytes(s: &[u8], first: usize, many: usize) -> u64
     ensures { result ≡ field s.now (8 * first) (8 * many) }
 {
     let mut acc: u64 = 0;
-    let mut i = 0;
-    while i < many {
-        acc = joined(acc, 8, wide(s[first + i]));
-        i += 1;
+    for byte in &s[first..first + many] {
+        acc = joined(acc, 8, u64::from(*byte));
     }
     acc
 }
@@ -86,31 +81,31 @@ pub(crate) fn of_byte(byte: u8, at: Field) -> u8
 }
 
 // A field of a message of any length: 5 where the message ends before it.
-pub(crate) fn number(msg: &[u8], at: Field) -> Number
+pub(crate) fn number(msg: &[u8], at: Field) -> Result<u64, Refusal>
     requires { (1 ≤ at.width) × (at.width ≤ 64) }
     ensures { meaning_number result ≡ read (row "" at.first at.width) msg.now }
 {
     let len = msg.len();
     let first = at.first / 8;
     if len <= first {
-        return Number::Refused(5);
+        return Err(Refusal::MessageEnds);
     }
     if len - first < (at.first % 8 + at.width + 7) / 8 {
-        return Number::Refused(5);
+        return Err(Refusal::MessageEnds);
     }
-    Number::Value(long(msg, at.first, at.width))
+    Ok(long(msg, at.first, at.width))
 }
 
 // The number that the `width` bits from bit `start` on make.
 // Refuses 7 for a width other than 1 to 64, then 5 where the message ends before the field.
-pub fn read_bits(msg: &[u8], start: usize, width: usize) -> Number
+pub fn read_bits(msg: &[u8], start: usize, width: usize) -> Result<u64, Refusal>
     ensures { ReadBits msg.now start width result }
 {
     if width == 0 {
-        return Number::Refused(7);
+        return Err(Refusal::Argument);
     }
     if 64 < width {
-        return Number::Refused(7);
+        return Err(Refusal::Argument);
     }
     number(
         msg,
@@ -123,47 +118,14 @@ pub fn read_bits(msg: &[u8], start: usize, width: usize) -> Number
 
 // The size that a half byte stands for, by a table of all sixteen, in which 0 is a reserved one.
 // Refuses 5 where the message ends before it, then 6 where it is reserved.
-pub(crate) fn size_at(msg: &[u8], at: Field, sizes: [u16; 16]) -> Number
+pub(crate) fn size_at(msg: &[u8], at: Field, sizes: [u16; 16]) -> Result<u64, Refusal>
     requires { at.width ≡ 4 }
     ensures { meaning_number result ≡ read_size (row "" at.first at.width) (λ c. get_or sizes c 0) msg.now }
 {
-    match number(msg, at) {
-        Number::Refused(n) => Number::Refused(n),
-        Number::Value(v) => {
-            let code = v as usize;
-            let size = sizes[code];
-            if size == 0 {
-                return Number::Refused(6);
-            }
-            Number::Value(size as u64)
-        }
+    let code = number(msg, at)?;
+    let size = sizes[code as usize];
+    if size == 0 {
+        return Err(Refusal::Reserved);
     }
-}
-
-// A part that has passed its own checks: 5 where the message ends before the part's end.
-pub(crate) fn within(msg: &[u8], first: usize, many: usize) -> Part
-    ensures { meaning_part result ≡ part_of msg.now [] first many }
-{
-    let len = msg.len();
-    if len < first {
-        return Part::Refused(5);
-    }
-    if len - first < many {
-        return Part::Refused(5);
-    }
-    Part::Shown { first, many }
-}
-
-// The bytes of a part; none where it is refused.
-pub(crate) fn shown(msg: &[u8], part: Part) -> &[u8]
-    requires { Inside part (length msg.now) }
-    ensures { result.now ≡ shown_of msg.now (meaning_part part) }
-{
-    match part {
-        Part::Refused(_) => &msg[..0],
-        Part::Shown { first, many } => {
-            let end = first + many;
-            &msg[first..end]
-        }
-    }
+    Ok(u64::from(size))
 }

@@ -8,7 +8,7 @@ pub const DSM_ID: Field = Field { first: 0, width: 4 };
 
 pub const DSM_BLOCK_ID: Field = Field { first: 4, width: 4 };
 
-#[derive(Clone, Copy)]
+#[derive(Clone, Copy, Debug, PartialEq, Eq)]
 pub enum DsmType {
     Kroot,
     Pkr,

@@ -1,5 +1,6 @@
 // DSM-KROOT: the root key of the TESLA chain and its parameters, in a message of any length.
 ghost use Rattle.std.specs.Prelude.{◌≡◌, ◌≤◌};
+ghost use Rattle.layouts.specs.Sizes.{unless_0};
 ghost use Rattle.layouts.specs.DsmKroot.{
   NumberOfBlocks,
   PublicKeyId,
@@ -25,9 +26,10 @@ ghost use Rattle.layouts.specs.DsmKroot.{
   signature_length,
 };
 
-use crate::answer::{Number, Part};
-use crate::bits;
 use crate::bits::Field;
+use crate::part::Part;
+use crate::refusal::Refusal;
+use crate::{bits, part};
 
 // The rows of the layout that are read.
 pub const NB_DK: Field = Field { first: 0, width: 4 };
@@ -79,45 +81,27 @@ pub const ALPHA: Field = Field {
 // The byte that the key starts at; the signature follows it, and the padding follows the signature.
 pub const KROOT_BYTE: usize = 13;
 
-#[derive(Clone, Copy)]
+#[derive(Clone, Copy, Debug, PartialEq, Eq)]
 pub enum HashFunction {
     Sha256,
     Sha3_256,
     Reserved,
 }
 
-#[derive(Clone, Copy)]
-pub enum HashFunctionAnswer {
-    Function(HashFunction),
-    Refused(u8),
-}
-
-#[derive(Clone, Copy)]
+#[derive(Clone, Copy, Debug, PartialEq, Eq)]
 pub enum MacFunction {
     HmacSha256,
     CmacAes,
     Reserved,
 }
 
-#[derive(Clone, Copy)]
-pub enum MacFunctionAnswer {
-    Function(MacFunction),
-    Refused(u8),
-}
-
-#[derive(Clone, Copy)]
+#[derive(Clone, Copy, Debug, PartialEq, Eq)]
 pub enum EcdsaFunction {
-    P256Sha256,
-    P521Sha512,
+    P256Sha256 = 256,
+    P521Sha512 = 521,
 }
 
-#[derive(Clone, Copy)]
-pub enum EcdsaFunctionAnswer {
-    Function(EcdsaFunction),
-    Refused(u8),
-}
-
-// By code; 0 is a reserved one.
+// By code; 0 is a reserved one, and not `None`: eleven times `Some` would hide the numbers that stand here as in the paper. Tables of numbers, not of Options: `both_22_for_20` of must-fail/ names one as it stands.
 pub const BLOCKS: [u16; 16] = [0, 7, 8, 9, 10, 11, 12, 13, 14, 0, 0, 0, 0, 0, 0, 0];
 
 pub const KEY_SIZES: [u16; 16] = [12, 13, 14, 15, 16, 20, 24, 28, 32, 0, 0, 0, 0, 0, 0, 0];
@@ -125,203 +109,188 @@ pub const KEY_SIZES: [u16; 16] = [12, 13, 14, 15, 16, 20, 24, 28, 32, 0, 0, 0, 0
 pub const TAG_SIZES: [u16; 16] = [0, 0, 0, 0, 0, 20, 24, 28, 32, 40, 0, 0, 0, 0, 0, 0];
 
 // NB_DK, as a number of blocks.
-pub fn number_of_blocks(msg: &[u8]) -> Number
+#[tactic(auto, using(crate::proofs::Tables::by_table), unfolding(crate::specs::Sizes::kroot_blocks))]
+pub fn number_of_blocks(msg: &[u8]) -> Result<u64, Refusal>
     ensures { NumberOfBlocks msg.now result }
 {
     bits::size_at(msg, NB_DK, BLOCKS)
 }
 
 // PKID.
-pub fn public_key_id(msg: &[u8]) -> Number
+pub fn public_key_id(msg: &[u8]) -> Result<u64, Refusal>
     ensures { PublicKeyId msg.now result }
 {
     bits::number(msg, PKID)
 }
 
 // CIDKR.
-pub fn kroot_chain_id(msg: &[u8]) -> Number
+pub fn kroot_chain_id(msg: &[u8]) -> Result<u64, Refusal>
     ensures { KrootChainId msg.now result }
 {
     bits::number(msg, CIDKR)
 }
 
 // HF, as it stands: 0 to 3.
-pub fn hash_function_number(msg: &[u8]) -> Number
+pub fn hash_function_number(msg: &[u8]) -> Result<u64, Refusal>
     ensures { HashFunctionNumber msg.now result }
 {
     bits::number(msg, HF)
 }
 
-// HF.
-pub fn hash_function(msg: &[u8]) -> HashFunctionAnswer
+// HF. Here and below a name by a match, as in `nma_header`: each is read at one place.
+pub fn hash_function(msg: &[u8]) -> Result<HashFunction, Refusal>
     ensures { HashFunctionRead msg.now result }
 {
-    match hash_function_number(msg) {
-        Number::Refused(n) => HashFunctionAnswer::Refused(n),
-        Number::Value(v) => match v {
-            0 => HashFunctionAnswer::Function(HashFunction::Sha256),
-            2 => HashFunctionAnswer::Function(HashFunction::Sha3_256),
-            _ => HashFunctionAnswer::Function(HashFunction::Reserved),
-        },
-    }
+    Ok(match hash_function_number(msg)? {
+        0 => HashFunction::Sha256,
+        2 => HashFunction::Sha3_256,
+        _ => HashFunction::Reserved,
+    })
 }
 
 // MF, as it stands: 0 to 3.
-pub fn mac_function_number(msg: &[u8]) -> Number
+pub fn mac_function_number(msg: &[u8]) -> Result<u64, Refusal>
     ensures { MacFunctionNumber msg.now result }
 {
     bits::number(msg, MF)
 }
 
 // MF.
-pub fn mac_function(msg: &[u8]) -> MacFunctionAnswer
+pub fn mac_function(msg: &[u8]) -> Result<MacFunction, Refusal>
     ensures { MacFunctionRead msg.now result }
 {
-    match mac_function_number(msg) {
-        Number::Refused(n) => MacFunctionAnswer::Refused(n),
-        Number::Value(v) => match v {
-            0 => MacFunctionAnswer::Function(MacFunction::HmacSha256),
-            1 => MacFunctionAnswer::Function(MacFunction::CmacAes),
-            _ => MacFunctionAnswer::Function(MacFunction::Reserved),
-        },
-    }
+    Ok(match mac_function_number(msg)? {
+        0 => MacFunction::HmacSha256,
+        1 => MacFunction::CmacAes,
+        _ => MacFunction::Reserved,
+    })
 }
 
 // KS, as a size in bytes.
-pub fn key_size(msg: &[u8]) -> Number
+#[tactic(auto, using(crate::proofs::Tables::by_table), unfolding(crate::specs::Sizes::key_sizes))]
+pub fn key_size(msg: &[u8]) -> Result<u64, Refusal>
     ensures { KeySize msg.now result }
 {
     bits::size_at(msg, KS, KEY_SIZES)
 }
 
 // TS, as a size in bits.
-pub fn tag_size(msg: &[u8]) -> Number
+#[tactic(auto, using(crate::proofs::Tables::by_table), unfolding(crate::specs::Sizes::tag_sizes))]
+pub fn tag_size(msg: &[u8]) -> Result<u64, Refusal>
     ensures { TagSize msg.now result }
 {
     bits::size_at(msg, TS, TAG_SIZES)
 }
 
 // MACLT.
-pub fn mac_lookup_table(msg: &[u8]) -> Number
+pub fn mac_lookup_table(msg: &[u8]) -> Result<u64, Refusal>
     ensures { MacLookupTable msg.now result }
 {
     bits::number(msg, MACLT)
 }
 
 // WN_K.
-pub fn kroot_wn(msg: &[u8]) -> Number
+pub fn kroot_wn(msg: &[u8]) -> Result<u64, Refusal>
     ensures { KrootWn msg.now result }
 {
     bits::number(msg, WN_K)
 }
 
 // TOWH_K, in hours.
-pub fn kroot_towh(msg: &[u8]) -> Number
+pub fn kroot_towh(msg: &[u8]) -> Result<u64, Refusal>
     ensures { KrootTowh msg.now result }
 {
     bits::number(msg, TOWH_K)
 }
 
 // The random pattern alpha.
-pub fn alpha(msg: &[u8]) -> Number
+pub fn alpha(msg: &[u8]) -> Result<u64, Refusal>
     ensures { Alpha msg.now result }
 {
     bits::number(msg, ALPHA)
 }
 
 // KROOT: whether it is shown, and where it lies.
-pub fn kroot_shown(msg: &[u8]) -> Part
+pub fn kroot_shown(msg: &[u8]) -> Result<Part, Refusal>
     ensures { KrootShown msg.now result }
 {
-    match key_size(msg) {
-        Number::Refused(n) => Part::Refused(n),
-        Number::Value(size) => bits::within(msg, KROOT_BYTE, size as usize),
-    }
+    let size = key_size(msg)?;
+    part::within(msg, KROOT_BYTE, size as usize)
 }
 
 // KROOT: its bytes, none where `kroot_shown` refuses.
+#[tactic(auto, using(crate::proofs::Kroot::kroot_inside))]
 pub fn kroot(msg: &[u8]) -> &[u8]
     ensures { Kroot msg.now result.now }
 {
-    bits::shown(msg, kroot_shown(msg))
+    part::shown(msg, kroot_shown(msg))
 }
 
 // How many bytes are missing to whole blocks of 13.
+#[tactic(auto, unfolding(crate::specs::DsmKroot::padding_to_block))]
 fn padding_to_block(len: usize) -> usize
     ensures { result ≡ padding_to_block len }
 {
     (13 - len % 13) % 13
 }
 
-// The length of the signature that with its padding fills `rest` bytes behind a key of `key` bytes; 0 where none does.
-fn signature_length(key: usize, rest: usize) -> usize
+// The length of the signature that with its padding fills `rest` bytes behind a key of `key` bytes.
+#[tactic(auto, using(crate::proofs::Kroot::lengths))]
+fn signature_length(key: usize, rest: usize) -> Option<usize>
     requires { key ≤ 32 }
-    ensures { result ≡ signature_length key rest }
+    ensures { result ≡ unless_0 (signature_length key rest) }
 {
     if rest == 64 + padding_to_block(key + 64) {
-        return 64;
+        return Some(64);
     }
     if rest == 132 + padding_to_block(key + 132) {
-        return 132;
+        return Some(132);
     }
-    0
+    None
 }
 
 // DS: whether it is shown, and where it lies.
-pub fn digital_signature_shown(msg: &[u8]) -> Part
+pub fn digital_signature_shown(msg: &[u8]) -> Result<Part, Refusal>
     ensures { DigitalSignatureShown msg.now result }
 {
-    match kroot_shown(msg) {
-        Part::Refused(n) => Part::Refused(n),
-        Part::Shown { first, many } => {
-            let start = first + many;
-            let len = signature_length(many, msg.len() - start);
-            if len == 0 {
-                return Part::Refused(11);
-            }
-            bits::within(msg, start, len)
-        }
-    }
+    let key = kroot_shown(msg)?;
+    let start = key.first + key.many;
+    let len = signature_length(key.many, msg.len() - start).ok_or(Refusal::Lengths)?;
+    part::within(msg, start, len)
 }
 
 // DS: its bytes, none where `digital_signature_shown` refuses.
+#[tactic(auto, using(crate::proofs::Kroot::signature_inside))]
 pub fn digital_signature(msg: &[u8]) -> &[u8]
     ensures { DigitalSignature msg.now result.now }
 {
-    bits::shown(msg, digital_signature_shown(msg))
+    part::shown(msg, digital_signature_shown(msg))
 }
 
 // The signature's function, told by its length.
-pub fn ecdsa_function(msg: &[u8]) -> EcdsaFunctionAnswer
+pub fn ecdsa_function(msg: &[u8]) -> Result<EcdsaFunction, Refusal>
     ensures { EcdsaFunctionRead msg.now result }
 {
-    match digital_signature_shown(msg) {
-        Part::Refused(n) => EcdsaFunctionAnswer::Refused(n),
-        Part::Shown { first: _, many } => {
-            if many == 64 {
-                return EcdsaFunctionAnswer::Function(EcdsaFunction::P256Sha256);
-            }
-            EcdsaFunctionAnswer::Function(EcdsaFunction::P521Sha512)
-        }
+    let signature = digital_signature_shown(msg)?;
+    if signature.many == 64 {
+        return Ok(EcdsaFunction::P256Sha256);
     }
+    Ok(EcdsaFunction::P521Sha512)
 }
 
 // P_DK: whether it is shown, and where it lies.
-pub fn padding_shown(msg: &[u8]) -> Part
+pub fn padding_shown(msg: &[u8]) -> Result<Part, Refusal>
     ensures { PaddingShown msg.now result }
 {
-    match digital_signature_shown(msg) {
-        Part::Refused(n) => Part::Refused(n),
-        Part::Shown { first, many } => {
-            let start = first + many;
-            bits::within(msg, start, msg.len() - start)
-        }
-    }
+    let signature = digital_signature_shown(msg)?;
+    let start = signature.first + signature.many;
+    part::within(msg, start, msg.len() - start)
 }
 
 // P_DK: its bytes, none where `padding_shown` refuses.
+#[tactic(auto, using(crate::proofs::Kroot::padding_inside))]
 pub fn padding(msg: &[u8]) -> &[u8]
     ensures { Padding msg.now result.now }
 {
-    bits::shown(msg, padding_shown(msg))
+    part::shown(msg, padding_shown(msg))
 }

@@ -3,9 +3,9 @@ ghost use Rattle.std.specs.Prelude.{◌≡◌, ◌+◌, ◌*◌, ◌<◌, length
 ghost use Rattle.layouts.specs.Bits.{field};
 ghost use Rattle.layouts.specs.InavPage.{PageKindRead, OsnmaRead};
 
-use crate::answer::Copy;
 use crate::bits;
 use crate::bits::Field;
+use crate::refusal::Refusal;
 
 // The kind of the even part, and of the odd part: whether the part is odd, and its page type.
 pub const EVEN_KIND: Field = Field { first: 0, width: 2 };
@@ -20,33 +20,26 @@ pub const OSNMA: Field = Field {
     width: 40,
 };
 
-#[derive(Clone, Copy)]
+#[derive(Clone, Copy, Debug, PartialEq, Eq)]
 pub enum PageKind {
     Counts,
     Skipped,
-    Refused(u8),
-}
-
-#[derive(Clone, Copy)]
-pub struct OsnmaField {
-    pub answer: Copy,
-    pub bytes: [u8; 5],
 }
 
 // Whether the page counts: both parts in their order, and nominal.
-pub fn kind(page: &[u8]) -> PageKind
+pub fn kind(page: &[u8]) -> Result<PageKind, Refusal>
     ensures { PageKindRead page.now result }
 {
     if page.len() != 30 {
-        return PageKind::Refused(1);
+        return Err(Refusal::SliceLength);
     }
     if bits::long(page, EVEN_KIND.first, EVEN_KIND.width) != 0 {
-        return PageKind::Skipped;
+        return Ok(PageKind::Skipped);
     }
     if bits::long(page, ODD_KIND.first, ODD_KIND.width) != 2 {
-        return PageKind::Skipped;
+        return Ok(PageKind::Skipped);
     }
-    PageKind::Counts
+    Ok(PageKind::Counts)
 }
 
 // The byte `k` of the OSNMA field.
@@ -57,24 +50,19 @@ fn osnma_byte(page: &[u8], k: usize) -> u8
     bits::byte_at(page, OSNMA.first / 8 + k, OSNMA.first % 8)
 }
 
-// The page's OSNMA field, by value; zeros where refused.
-pub fn osnma(page: &[u8]) -> OsnmaField
+// The page's OSNMA field, by value.
+pub fn osnma(page: &[u8]) -> Result<[u8; 5], Refusal>
     ensures { OsnmaRead page.now result }
 {
     if page.len() != 30 {
-        return OsnmaField {
-            answer: Copy::Refused(1),
-            bytes: [0; 5],
-        };
+        return Err(Refusal::SliceLength);
     }
-    OsnmaField {
-        answer: Copy::Copied,
-        bytes: [
-            osnma_byte(page, 0),
-            osnma_byte(page, 1),
-            osnma_byte(page, 2),
-            osnma_byte(page, 3),
-            osnma_byte(page, 4),
-        ],
-    }
+    // written out, and no `from_fn`: five calls, without a closure for each page
+    Ok([
+        osnma_byte(page, 0),
+        osnma_byte(page, 1),
+        osnma_byte(page, 2),
+        osnma_byte(page, 3),
+        osnma_byte(page, 4),
+    ])
 }

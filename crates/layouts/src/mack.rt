@@ -1,10 +1,10 @@
 // MACK messages: tags and the key of a TESLA chain. Key sizes are in bytes, tag sizes in bits; both come from the chain's KROOT.
 // Every reader refuses 1 for a message of other than 60 bytes, then 7 for a size that no KROOT gives, then 7 for a tag number.
-ghost use Rattle.std.specs.Prelude.{◌≡◌, [], ◌∷◌, ◌+◌, ◌-◌, ◌*◌, ◌/◌, ◌%◌, ◌≤◌, ◌<◌, length};
-ghost use Rattle.layouts.specs.Answer.{refusal as refusal_of, answered, gives};
+ghost use Rattle.std.specs.Prelude.{◌≡◌, [], ◌∷◌, ◌+◌, ◌-◌, ◌*◌, ◌/◌, ◌%◌, ◌≤◌, ◌<◌, length, take, drop};
+ghost use Rattle.layouts.specs.Answer.{refusal as refusal_of};
+ghost use Rattle.layouts.specs.Refusals.{refused_by};
 ghost use Rattle.layouts.specs.Bits.{field, bytes_from};
 ghost use Rattle.layouts.specs.Sizes.{key_sizes, tag_sizes};
-ghost use Rattle.layouts.specs.Meaning.{meaning_number};
 ghost use Rattle.layouts.specs.inner.Code.{Room, tag_end};
 ghost use Rattle.layouts.specs.Mack.{
   listed,
@@ -13,6 +13,7 @@ ghost use Rattle.layouts.specs.Mack.{
   mack_checks,
   nt,
   tag_checks,
+  InfoRead,
   NumTags,
   Tag0,
   Macseq,
@@ -27,10 +28,10 @@ ghost use Rattle.layouts.specs.Mack.{
   Key,
 };
 
-use crate::answer::{Copy, Number};
 use crate::bits;
 use crate::bits::Field;
-use crate::tag_info::{Adkd, AdkdAnswer, Prnd, PrndAnswer};
+use crate::refusal::Refusal;
+use crate::tag_info::{Adkd, Prnd};
 
 // The rows of the header and of a tag, from the end of tag 0 or of the tag on; those of a tag together are its info.
 pub const MACSEQ: Field = Field {
@@ -55,243 +56,223 @@ pub const TAG_INFO: Field = Field {
 // The bits of a message.
 pub const BITS: usize = 480;
 
-fn key_listed(key_size_bytes: usize) -> bool
-    ensures { result ≡ listed key_size_bytes (sizes_of key_sizes) }
+// The sizes of a chain's keys, in bytes, and of its tags, in bits, as its KROOT gives them.
+#[derive(Clone, Copy, Debug, PartialEq, Eq)]
+pub struct Sizes {
+    pub key_bytes: usize,
+    pub tag_bits: usize,
+}
+
+// A message, with the sizes of its chain.
+#[derive(Clone, Copy)]
+pub struct Mack<'a> {
+    pub msg: &'a [u8],
+    pub sizes: Sizes,
+}
+
+// A match for each of the two lists, and not one search in a table: it is a test of one bit, and the edit `size_in_bits_listed` names its numbers.
+#[tactic(auto, unfolding(crate::specs::Mack::listed, crate::specs::Sizes::key_sizes))]
+fn key_listed(key_bytes: usize) -> bool
+    ensures { result ≡ listed key_bytes (sizes_of key_sizes) }
 {
-    match key_size_bytes {
+    match key_bytes {
         12 | 13 | 14 | 15 | 16 | 20 | 24 | 28 | 32 => true,
         _ => false,
     }
 }
 
-fn tag_listed(tag_size_bits: usize) -> bool
-    ensures { result ≡ listed tag_size_bits (sizes_of tag_sizes) }
+#[tactic(auto, unfolding(crate::specs::Mack::listed, crate::specs::Sizes::tag_sizes))]
+fn tag_listed(tag_bits: usize) -> bool
+    ensures { result ≡ listed tag_bits (sizes_of tag_sizes) }
 {
-    match tag_size_bits {
+    match tag_bits {
         20 | 24 | 28 | 32 | 40 => true,
         _ => false,
     }
 }
 
-// The refusal number of the sizes; 0 for none. So are the next two.
-fn refuses_sizes(key_size_bytes: usize, tag_size_bits: usize) -> u8
-    ensures { result ≡ refusal_of (size_checks key_size_bytes tag_size_bits) }
-{
-    if !key_listed(key_size_bytes) {
-        return 7;
-    }
-    if !tag_listed(tag_size_bits) {
-        return 7;
-    }
-    0
-}
-
-fn refuses(msg: &[u8], key_size_bytes: usize, tag_size_bits: usize) -> u8
-    ensures { result ≡ refusal_of (mack_checks msg.now key_size_bytes tag_size_bits) }
-{
-    if msg.len() != 60 {
-        return 1;
-    }
-    refuses_sizes(key_size_bytes, tag_size_bits)
-}
-
-fn refuses_tag(msg: &[u8], key_size_bytes: usize, tag_size_bits: usize, n: usize) -> u8
-    ensures { result ≡ refusal_of (tag_checks msg.now key_size_bytes tag_size_bits n) }
-{
-    let refusal = refuses(msg, key_size_bytes, tag_size_bits);
-    if refusal != 0 {
-        return refusal;
-    }
-    if n == 0 {
-        return 7;
-    }
-    if tags(key_size_bytes, tag_size_bits) <= n {
-        return 7;
-    }
-    0
-}
-
-// nt, of sizes that are listed.
-fn tags(key_size_bytes: usize, tag_size_bits: usize) -> usize
-    requires { (key_size_bytes ≤ 32) × (tag_size_bits ≤ 40) }
-    ensures { result ≡ nt key_size_bytes tag_size_bits }
-{
-    (BITS - 8 * key_size_bytes) / (tag_size_bits + TAG_INFO.width)
-}
-
-// nt: the tags are 0 to nt-1.
-pub fn num_tags(key_size_bytes: usize, tag_size_bits: usize) -> Number
-    ensures { NumTags key_size_bytes tag_size_bits result }
-{
-    let refusal = refuses_sizes(key_size_bytes, tag_size_bits);
-    if refusal != 0 {
-        return Number::Refused(refusal);
-    }
-    Number::Value(tags(key_size_bytes, tag_size_bits) as u64)
-}
-
-// The bits of tag `n`, unless refused.
-fn tag_at(msg: &[u8], refusal: u8, n: usize, tag_size_bits: usize) -> Number
-    requires { refusal ≡ 0 → Room msg.now tag_size_bits n }
-    ensures { meaning_number result ≡ answered refusal (gives (field msg.now (n * (tag_size_bits + 16)) tag_size_bits ∷ [])) }
-{
-    if refusal != 0 {
-        return Number::Refused(refusal);
-    }
-    Number::Value(bits::long(msg, n * (tag_size_bits + TAG_INFO.width), tag_size_bits))
-}
-
-// The field `at` behind tag `n`, unless refused.
-fn info_at(msg: &[u8], refusal: u8, n: usize, tag_size_bits: usize, at: Field) -> Number
-    requires { (at.first + at.width ≤ 16) × (refusal ≡ 0 → Room msg.now tag_size_bits n) }
-    ensures { meaning_number result ≡ answered refusal (gives (field msg.now (tag_end tag_size_bits n + at.first) at.width ∷ [])) }
-{
-    if refusal != 0 {
-        return Number::Refused(refusal);
-    }
-    Number::Value(bits::long(
-        msg,
-        n * (tag_size_bits + TAG_INFO.width) + tag_size_bits + at.first,
-        at.width,
-    ))
-}
-
-// Tag 0.
-pub fn tag0(msg: &[u8], key_size_bytes: usize, tag_size_bits: usize) -> Number
-    ensures { Tag0 msg.now key_size_bytes tag_size_bits result }
-{
-    tag_at(
-        msg,
-        refuses(msg, key_size_bytes, tag_size_bits),
-        0,
-        tag_size_bits,
-    )
-}
-
-// MACSEQ, 12 bits.
-pub fn macseq(msg: &[u8], key_size_bytes: usize, tag_size_bits: usize) -> Number
-    ensures { Macseq msg.now key_size_bytes tag_size_bits result }
-{
-    info_at(
-        msg,
-        refuses(msg, key_size_bytes, tag_size_bits),
-        0,
-        tag_size_bits,
-        MACSEQ,
-    )
-}
-
-// COP of tag 0.
-pub fn cop(msg: &[u8], key_size_bytes: usize, tag_size_bits: usize) -> Number
-    ensures { Cop msg.now key_size_bytes tag_size_bits result }
-{
-    info_at(
-        msg,
-        refuses(msg, key_size_bytes, tag_size_bits),
-        0,
-        tag_size_bits,
-        COP,
-    )
-}
-
-// Tag n, 1 to nt-1.
-pub fn tag(msg: &[u8], key_size_bytes: usize, tag_size_bits: usize, n: usize) -> Number
-    ensures { Tag msg.now key_size_bytes tag_size_bits n result }
-{
-    tag_at(
-        msg,
-        refuses_tag(msg, key_size_bytes, tag_size_bits, n),
-        n,
-        tag_size_bits,
-    )
-}
-
-// The info of tag n: PRND, ADKD and COP as one number of 16 bits.
-pub fn tag_info(msg: &[u8], key_size_bytes: usize, tag_size_bits: usize, n: usize) -> Number
-    ensures { TagInfo msg.now key_size_bytes tag_size_bits n result }
-{
-    info_at(
-        msg,
-        refuses_tag(msg, key_size_bytes, tag_size_bits, n),
-        n,
-        tag_size_bits,
-        TAG_INFO,
-    )
-}
-
-// PRND of tag n, as it stands.
-pub fn prnd_number(msg: &[u8], key_size_bytes: usize, tag_size_bits: usize, n: usize) -> Number
-    ensures { PrndNumber msg.now key_size_bytes tag_size_bits n result }
-{
-    info_at(
-        msg,
-        refuses_tag(msg, key_size_bytes, tag_size_bits, n),
-        n,
-        tag_size_bits,
-        PRND,
-    )
-}
-
-// PRND of tag n.
-pub fn prnd(msg: &[u8], key_size_bytes: usize, tag_size_bits: usize, n: usize) -> PrndAnswer
-    ensures { PrndRead msg.now key_size_bytes tag_size_bits n result }
-{
-    match prnd_number(msg, key_size_bytes, tag_size_bits, n) {
-        Number::Refused(n) => PrndAnswer::Refused(n),
-        Number::Value(v) => {
-            if v < 1 {
-                return PrndAnswer::Name(Prnd::Reserved);
-            }
-            if v <= 36 {
-                return PrndAnswer::Name(Prnd::GalileoSvid(v as u8));
-            }
-            if v == 255 {
-                return PrndAnswer::Name(Prnd::GalileoConstellation);
-            }
-            PrndAnswer::Name(Prnd::Reserved)
+#[tactic(auto, using(crate::proofs::Tags::of_sizes))]
+impl Sizes {
+    // 7 for a size that no KROOT gives.
+    fn check(self) -> Result<(), Refusal>
+        ensures { refused_by result ≡ refusal_of (size_checks self.key_bytes self.tag_bits) }
+    {
+        if !key_listed(self.key_bytes) {
+            return Err(Refusal::Argument);
         }
+        if !tag_listed(self.tag_bits) {
+            return Err(Refusal::Argument);
+        }
+        Ok(())
+    }
+
+    // nt, of sizes that are listed.
+    #[tactic(auto, unfolding(crate::specs::Mack::nt))]
+    fn tags(self) -> usize
+        requires { (self.key_bytes ≤ 32) × (self.tag_bits ≤ 40) }
+        ensures { result ≡ nt self.key_bytes self.tag_bits }
+    {
+        (BITS - 8 * self.key_bytes) / (self.tag_bits + TAG_INFO.width)
+    }
+
+    // nt: the tags are 0 to nt-1.
+    pub fn num_tags(self) -> Result<u64, Refusal>
+        ensures { NumTags self.key_bytes self.tag_bits result }
+    {
+        self.check()?;
+        Ok(self.tags() as u64)
     }
 }
 
-// ADKD of tag n, as it stands.
-pub fn adkd_number(msg: &[u8], key_size_bytes: usize, tag_size_bits: usize, n: usize) -> Number
-    ensures { AdkdNumber msg.now key_size_bytes tag_size_bits n result }
-{
-    info_at(
-        msg,
-        refuses_tag(msg, key_size_bytes, tag_size_bits, n),
-        n,
-        tag_size_bits,
-        ADKD,
-    )
-}
-
-// ADKD of tag n.
-pub fn adkd(msg: &[u8], key_size_bytes: usize, tag_size_bits: usize, n: usize) -> AdkdAnswer
-    ensures { AdkdRead msg.now key_size_bytes tag_size_bits n result }
-{
-    match adkd_number(msg, key_size_bytes, tag_size_bits, n) {
-        Number::Refused(n) => AdkdAnswer::Refused(n),
-        Number::Value(v) => match v {
-            0 => AdkdAnswer::Name(Adkd::InavCed),
-            4 => AdkdAnswer::Name(Adkd::InavTiming),
-            12 => AdkdAnswer::Name(Adkd::SlowMac),
-            _ => AdkdAnswer::Name(Adkd::Reserved),
-        },
+#[tactic(auto, using(crate::proofs::Tags::of_mack))]
+impl<'a> Mack<'a> {
+    // 1 for a message of other than 60 bytes, then 7 for a size.
+    fn check(self) -> Result<(), Refusal>
+        ensures { refused_by result ≡ refusal_of (mack_checks self.entry.msg.now self.entry.sizes.key_bytes self.entry.sizes.tag_bits) }
+    {
+        if self.msg.len() != 60 {
+            return Err(Refusal::SliceLength);
+        }
+        self.sizes.check()
     }
-}
 
-// COP of tag n.
-pub fn tag_cop(msg: &[u8], key_size_bytes: usize, tag_size_bits: usize, n: usize) -> Number
-    ensures { TagCop msg.now key_size_bytes tag_size_bits n result }
-{
-    info_at(
-        msg,
-        refuses_tag(msg, key_size_bytes, tag_size_bits, n),
-        n,
-        tag_size_bits,
-        COP,
-    )
+    // The same, then 7 for a tag other than 1 to nt-1.
+    fn check_tag(self, n: usize) -> Result<(), Refusal>
+        ensures { refused_by result ≡ refusal_of (tag_checks self.entry.msg.now self.entry.sizes.key_bytes self.entry.sizes.tag_bits n) }
+    {
+        self.check()?;
+        if n == 0 {
+            return Err(Refusal::Argument);
+        }
+        if self.sizes.tags() <= n {
+            return Err(Refusal::Argument);
+        }
+        Ok(())
+    }
+
+    // The bits of tag `n`.
+    fn tag_at(self, n: usize) -> u64
+        requires { Room self.msg.now self.sizes.tag_bits n }
+        ensures { result ≡ field self.entry.msg.now (n * (self.entry.sizes.tag_bits + 16)) self.entry.sizes.tag_bits }
+    {
+        let tag_bits = self.sizes.tag_bits;
+        bits::long(self.msg, n * (tag_bits + TAG_INFO.width), tag_bits)
+    }
+
+    // The field `at` behind tag `n`.
+    fn info_at(self, n: usize, at: Field) -> u64
+        requires { (at.first + at.width ≤ 16) × Room self.msg.now self.sizes.tag_bits n }
+        ensures { result ≡ field self.entry.msg.now (tag_end self.entry.sizes.tag_bits n + at.first) at.width }
+    {
+        let tag_bits = self.sizes.tag_bits;
+        let end = n * (tag_bits + TAG_INFO.width) + tag_bits;
+        bits::long(self.msg, end + at.first, at.width)
+    }
+
+    // The field `at` behind a tag that is not refused.
+    fn info(self, n: usize, at: Field) -> Result<u64, Refusal>
+        requires { at.first + at.width ≤ 16 }
+        ensures { InfoRead self.entry.msg.now self.entry.sizes.key_bytes self.entry.sizes.tag_bits n at.first at.width result }
+    {
+        self.check_tag(n)?;
+        Ok(self.info_at(n, at))
+    }
+
+    // Tag 0.
+    pub fn tag0(self) -> Result<u64, Refusal>
+        ensures { Tag0 self.entry.msg.now self.entry.sizes.key_bytes self.entry.sizes.tag_bits result }
+    {
+        self.check()?;
+        Ok(self.tag_at(0))
+    }
+
+    // MACSEQ, 12 bits.
+    pub fn macseq(self) -> Result<u64, Refusal>
+        ensures { Macseq self.entry.msg.now self.entry.sizes.key_bytes self.entry.sizes.tag_bits result }
+    {
+        self.check()?;
+        Ok(self.info_at(0, MACSEQ))
+    }
+
+    // COP of tag 0. Two lines like `macseq`, and no call of one more function is shorter.
+    pub fn cop(self) -> Result<u64, Refusal>
+        ensures { Cop self.entry.msg.now self.entry.sizes.key_bytes self.entry.sizes.tag_bits result }
+    {
+        self.check()?;
+        Ok(self.info_at(0, COP))
+    }
+
+    // Tag n, 1 to nt-1.
+    pub fn tag(self, n: usize) -> Result<u64, Refusal>
+        ensures { Tag self.entry.msg.now self.entry.sizes.key_bytes self.entry.sizes.tag_bits n result }
+    {
+        self.check_tag(n)?;
+        Ok(self.tag_at(n))
+    }
+
+    // The info of tag n: PRND, ADKD and COP as one number of 16 bits.
+    pub fn tag_info(self, n: usize) -> Result<u64, Refusal>
+        ensures { TagInfo self.entry.msg.now self.entry.sizes.key_bytes self.entry.sizes.tag_bits n result }
+    {
+        self.info(n, TAG_INFO)
+    }
+
+    // PRND of tag n, as it stands.
+    pub fn prnd_number(self, n: usize) -> Result<u64, Refusal>
+        ensures { PrndNumber self.entry.msg.now self.entry.sizes.key_bytes self.entry.sizes.tag_bits n result }
+    {
+        self.info(n, PRND)
+    }
+
+    // PRND of tag n. Here and below a name by a match, as in `nma_header`: each is read at one place.
+    pub fn prnd(self, n: usize) -> Result<Prnd, Refusal>
+        ensures { PrndRead self.entry.msg.now self.entry.sizes.key_bytes self.entry.sizes.tag_bits n result }
+    {
+        Ok(match self.prnd_number(n)? {
+            v @ 1..=36 => Prnd::GalileoSvid(v as u8),
+            255 => Prnd::GalileoConstellation,
+            _ => Prnd::Reserved,
+        })
+    }
+
+    // ADKD of tag n, as it stands.
+    pub fn adkd_number(self, n: usize) -> Result<u64, Refusal>
+        ensures { AdkdNumber self.entry.msg.now self.entry.sizes.key_bytes self.entry.sizes.tag_bits n result }
+    {
+        self.info(n, ADKD)
+    }
+
+    // ADKD of tag n.
+    pub fn adkd(self, n: usize) -> Result<Adkd, Refusal>
+        ensures { AdkdRead self.entry.msg.now self.entry.sizes.key_bytes self.entry.sizes.tag_bits n result }
+    {
+        Ok(match self.adkd_number(n)? {
+            0 => Adkd::InavCed,
+            4 => Adkd::InavTiming,
+            12 => Adkd::SlowMac,
+            _ => Adkd::Reserved,
+        })
+    }
+
+    // COP of tag n.
+    pub fn tag_cop(self, n: usize) -> Result<u64, Refusal>
+        ensures { TagCop self.entry.msg.now self.entry.sizes.key_bytes self.entry.sizes.tag_bits n result }
+    {
+        self.info(n, COP)
+    }
+
+    // Copies the key into the caller's output of key_bytes bytes; one of another length is 1, tested last. The key may start half a byte in.
+    pub fn key(self, out: &mut [u8]) -> Result<(), Refusal>
+        ensures { Key self.entry.msg.now self.entry.sizes.key_bytes self.entry.sizes.tag_bits out.old result out.new }
+    {
+        self.check()?;
+        if out.len() != self.sizes.key_bytes {
+            return Err(Refusal::SliceLength);
+        }
+        let start = self.sizes.tags() * (self.sizes.tag_bits + TAG_INFO.width);
+        copy_from(self.msg, start, out);
+        Ok(())
+    }
 }
 
 // The low half of a byte, and behind it the high half of the next.
@@ -301,27 +282,23 @@ fn across(byte: u8, next: u8) -> u8
     byte % 16 * 16 + next / 16
 }
 
-// Copies the bytes from byte `first` on into all of `out`.
+// Copies the bytes from byte `first` on into all of `out`. A loop: the library's copy calls `memmove`, and the archive for C calls nothing.
 fn copy_bytes(msg: &[u8], first: usize, out: &mut [u8])
     requires { first + length out.old ≤ length msg.now }
-    ensures { out.new ≡ bytes_from msg.now (8 * first) (length out.old) }
+    ensures { out.new ≡ take (length out.old) (drop first msg.now) }
 {
-    let mut i = 0;
-    while i < out.len() {
+    for i in 0..out.len() {
         out[i] = msg[first + i];
-        i += 1;
     }
 }
 
-// The same from half a byte into byte `first` on.
+// Copies the bytes from half a byte into byte `first` on into all of `out`. By index: each byte is made of two neighbours, which a chain would pair first.
 fn copy_half_bytes(msg: &[u8], first: usize, out: &mut [u8])
     requires { first + length out.old < length msg.now }
     ensures { out.new ≡ bytes_from msg.now (8 * first + 4) (length out.old) }
 {
-    let mut i = 0;
-    while i < out.len() {
+    for i in 0..out.len() {
         out[i] = across(msg[first + i], msg[first + i + 1]);
-        i += 1;
     }
 }
 
@@ -330,28 +307,10 @@ fn copy_from(msg: &[u8], start: usize, out: &mut [u8])
     requires { (start % 4 ≡ 0) × (start + 8 * length out.old ≤ 8 * length msg.now) }
     ensures { out.new ≡ bytes_from msg.now start (length out.old) }
 {
+    let first = start / 8;
     if start % 8 == 0 {
-        copy_bytes(msg, start / 8, out);
+        copy_bytes(msg, first, out);
         return;
     }
-    copy_half_bytes(msg, start / 8, out);
-}
-
-// Copies the key into the caller's output of key_size_bytes bytes; one of another length is 1, tested last. The key may start half a byte in.
-pub fn key(msg: &[u8], key_size_bytes: usize, tag_size_bits: usize, out: &mut [u8]) -> Copy
-    ensures { Key msg.now key_size_bytes tag_size_bits out.old result out.new }
-{
-    let refusal = refuses(msg, key_size_bytes, tag_size_bits);
-    if refusal != 0 {
-        return Copy::Refused(refusal);
-    }
-    if out.len() != key_size_bytes {
-        return Copy::Refused(1);
-    }
-    copy_from(
-        msg,
-        tags(key_size_bytes, tag_size_bits) * (tag_size_bits + TAG_INFO.width),
-        out,
-    );
-    Copy::Copied
+    copy_half_bytes(msg, first, out);
 }

@@ -3,34 +3,29 @@ ghost use Rattle.std.specs.Prelude.{◌≡◌, ◌+◌, ◌≤◌, get_or};
 ghost use Rattle.layouts.specs.Meaning.{slot_numbers};
 ghost use Rattle.layouts.specs.Maclt.{table, row_of, flex, numbers};
 ghost use Rattle.layouts.specs.MacltPromises.{MacltEntryRead, FlxIndicesRead, NtRead};
-ghost use Rattle.layouts.specs.inner.Code.{row_number, flx_number, coded_slots, one_if_some};
+ghost use Rattle.layouts.specs.inner.Code.{row_number, flx_number, coded_slots, one_if_some, KnownRow};
 
-use crate::answer::Number;
+use crate::refusal::Refusal;
 use crate::tag_info::Adkd;
 
 // S and E of the table.
-#[derive(Clone, Copy)]
+#[derive(Clone, Copy, Debug, PartialEq, Eq)]
 pub enum AuthObject {
     SelfAuth,
     CrossAuth,
 }
 
-#[derive(Clone, Copy)]
+// As the Rust has it: a flexible slot is a slot, so that this is no Option.
+#[derive(Clone, Copy, Debug, PartialEq, Eq)]
 pub enum MacLTSlot {
     Fixed { adkd: Adkd, object: AuthObject },
     Flex,
 }
 
-#[derive(Clone, Copy)]
-pub enum MacLTSlotAnswer {
-    Slot(MacLTSlot),
-    Refused(u8),
-}
-
-// How many tags are FLX, or the refusal, beside their numbers: ascending, zeros behind.
+// How many tags are FLX, and their numbers: ascending, zeros behind. An array with its count, since there is no heap.
 #[derive(Clone, Copy)]
 pub struct FlxIndices {
-    pub count: Number,
+    pub count: u8,
     pub indices: [u8; 4],
 }
 
@@ -57,7 +52,8 @@ fn row(maclt: u8) -> u64
     }
 }
 
-// The FLX tags of message 0 and then of message 1, four bytes each, from the right. Zeros are no tags.
+// The FLX tags of message 0 and then of message 1, four bytes each, from the right. Zeros are no tags. A table like `row`, with other numbers: nothing else is
+// in either.
 fn flx_tags(maclt: u8) -> u64
     ensures { result ≡ flx_number (row_of maclt table) }
 {
@@ -78,6 +74,7 @@ fn flx_tags(maclt: u8) -> u64
     }
 }
 
+// A slot by its code. The codes are those of `row` and of nothing else, so no `From`.
 fn decoded(code: u8) -> MacLTSlot
     ensures { slot_numbers result ≡ numbers (get_or coded_slots code flex) }
 {
@@ -106,79 +103,65 @@ fn decoded(code: u8) -> MacLTSlot
     }
 }
 
+fn how_many(a: u64, b: u64, c: u64, d: u64) -> u8
+    ensures { result ≡ one_if_some a + one_if_some b + one_if_some c + one_if_some d }
+{
+    u8::from(a != 0) + u8::from(b != 0) + u8::from(c != 0) + u8::from(d != 0)
+}
+
+// The row of an ID, with nt in front. Refuses 8 for an unknown ID.
+fn known_row(maclt: u8) -> Result<u64, Refusal>
+    ensures { KnownRow maclt result }
+{
+    let row = row(maclt);
+    if row >> 60 == 0 {
+        return Err(Refusal::UnknownTable);
+    }
+    Ok(row)
+}
+
 // The slot of tag `num_tag` in message `msg`, 0 or 1.
 // Refuses 7 for another message or tag 0, then 8 for an unknown ID, then 9 for a tag that the ID has not.
-pub fn get_maclt_entry(maclt: u8, msg: usize, num_tag: usize) -> MacLTSlotAnswer
+pub fn get_maclt_entry(maclt: u8, msg: usize, num_tag: usize) -> Result<MacLTSlot, Refusal>
     ensures { MacltEntryRead maclt msg num_tag result }
 {
     if 1 < msg {
-        return MacLTSlotAnswer::Refused(7);
+        return Err(Refusal::Argument);
     }
     if num_tag == 0 {
-        return MacLTSlotAnswer::Refused(7);
+        return Err(Refusal::Argument);
     }
-    let row = row(maclt);
-    let nt = row >> 60;
-    if nt == 0 {
-        return MacLTSlotAnswer::Refused(8);
-    }
-    if nt <= num_tag as u64 {
-        return MacLTSlotAnswer::Refused(9);
+    let row = known_row(maclt)?;
+    if row >> 60 <= num_tag as u64 {
+        return Err(Refusal::TagNumber);
     }
     let code = (row >> (3 * (10 * msg + num_tag))) % 8;
-    MacLTSlotAnswer::Slot(decoded(code as u8))
-}
-
-fn one_if_some(tag: u64) -> u64
-    ensures { (result ≡ one_if_some tag) × (result ≤ 1) }
-{
-    if tag == 0 {
-        return 0;
-    }
-    1
-}
-
-fn how_many(a: u64, b: u64, c: u64, d: u64) -> u64
-    ensures { result ≡ one_if_some a + one_if_some b + one_if_some c + one_if_some d }
-{
-    one_if_some(a) + one_if_some(b) + one_if_some(c) + one_if_some(d)
+    Ok(decoded(code as u8))
 }
 
 // The FLX tags of message `msg`, 0 or 1, ascending.
 // Refuses 7 for another message, then 8 for an unknown ID.
-pub fn get_flx_indices(maclt: u8, msg: usize) -> FlxIndices
+pub fn get_flx_indices(maclt: u8, msg: usize) -> Result<FlxIndices, Refusal>
     ensures { FlxIndicesRead maclt msg result }
 {
     if 1 < msg {
-        return FlxIndices {
-            count: Number::Refused(7),
-            indices: [0; 4],
-        };
+        return Err(Refusal::Argument);
     }
-    if row(maclt) >> 60 == 0 {
-        return FlxIndices {
-            count: Number::Refused(8),
-            indices: [0; 4],
-        };
-    }
+    known_row(maclt)?;
     let tags = flx_tags(maclt) >> (32 * msg);
     let a = tags % 256;
     let b = (tags >> 8) % 256;
     let c = (tags >> 16) % 256;
     let d = (tags >> 24) % 256;
-    FlxIndices {
-        count: Number::Value(how_many(a, b, c, d)),
+    Ok(FlxIndices {
+        count: how_many(a, b, c, d),
         indices: [a as u8, b as u8, c as u8, d as u8],
-    }
+    })
 }
 
 // nt of an ID: its tags are 1 to nt-1. Refuses 8 for an unknown ID.
-pub fn nt(maclt: u8) -> Number
+pub fn nt(maclt: u8) -> Result<u64, Refusal>
     ensures { NtRead maclt result }
 {
-    let nt = row(maclt) >> 60;
-    if nt == 0 {
-        return Number::Refused(8);
-    }
-    Number::Value(nt)
+    Ok(known_row(maclt)? >> 60)
 }

@@ -10,7 +10,7 @@ pub const CID: Field = Field { first: 2, width: 2 };
 
 pub const CPKS: Field = Field { first: 4, width: 3 };
 
-#[derive(Clone, Copy)]
+#[derive(Clone, Copy, Debug, PartialEq, Eq)]
 pub enum NmaStatus {
     Reserved,
     Test,
@@ -18,7 +18,7 @@ pub enum NmaStatus {
     DontUse,
 }
 
-#[derive(Clone, Copy)]
+#[derive(Clone, Copy, Debug, PartialEq, Eq)]
 pub enum ChainAndPubkeyStatus {
     Reserved,
     Nominal,
@@ -30,7 +30,8 @@ pub enum ChainAndPubkeyStatus {
     AlertMessage,
 }
 
-// NMAS.
+// NMAS. Here and below a name by a match, and no `From`: each name is read at one place, and the arms would be the same.
+#[tactic(auto, using(crate::proofs::Fields::field_lt))]
 pub fn nma_status(header: u8) -> NmaStatus
     ensures { NmaStatusRead header result }
 {
@@ -51,6 +52,7 @@ pub fn chain_id(header: u8) -> u8
 }
 
 // CPKS.
+#[tactic(auto, using(crate::proofs::Fields::says, crate::proofs::Fields::field_lt))]
 pub fn chain_and_pubkey_status(header: u8) -> ChainAndPubkeyStatus
     ensures { ChainAndPubkeyStatusRead header result }
 {

@@ -1,17 +1,14 @@
-// Plain numbers.
+// Plain numbers, by the library's own: nothing here calls them any more, and a caller may (`Agreed.wide`, `Agreed.smaller`).
 ghost use Rattle.layouts.specs.Numbers.{Wide, Smaller};
 
 pub fn wide(x: u8) -> u64
     ensures { Wide x result }
 {
-    x as u64
+    u64::from(x)
 }
 
 pub fn smaller(a: usize, b: usize) -> usize
     ensures { Smaller a b result }
 {
-    if a < b {
-        return a;
-    }
-    b
+    a.min(b)
 }

@@ -1,30 +1,18 @@
 // The names of the numbers in a tag's info, which the look-up table has too.
 
 // PRND: whose data the tag authenticates.
-#[derive(Clone, Copy)]
+#[derive(Clone, Copy, Debug, PartialEq, Eq)]
 pub enum Prnd {
     GalileoSvid(u8),
     GalileoConstellation,
     Reserved,
 }
 
-#[derive(Clone, Copy)]
-pub enum PrndAnswer {
-    Name(Prnd),
-    Refused(u8),
-}
-
-// ADKD: which data the tag authenticates.
-#[derive(Clone, Copy)]
+// ADKD: which data the tag authenticates. Reserved stands for any other number; the field has no 16.
+#[derive(Clone, Copy, Debug, PartialEq, Eq)]
 pub enum Adkd {
-    InavCed,
-    InavTiming,
-    SlowMac,
-    Reserved,
-}
-
-#[derive(Clone, Copy)]
-pub enum AdkdAnswer {
-    Name(Adkd),
-    Refused(u8),
+    InavCed = 0,
+    InavTiming = 4,
+    SlowMac = 12,
+    Reserved = 16,
 }

@@ -7,22 +7,25 @@ use mathlib.Core.List.{List, [], ◌∷◌, ◌++◌, append-nil, append_assoc}
 use mathlib.Core.Bool.{Bool, true, false, cond}
 use lib.ListN.{length, get_or, take, drop, replicate, length-append, length-take, length-drop, length-replicate, take-append-drop}
 use lib.Seq.{length-take-le, take_at, drop-length}
-use lib.Dec.{eqb, leb}
-use borrow.Author.Tests.{ltb-false, eqb-true, eqb-false, leb-true}
-use Rattle.layouts.specs.Answer.{Answer, refused, nothing, gives, refusal}
+use lib.Dec.{T, eqb, leb, ltb}
+use borrow.Author.Tests.{eqb-true, eqb-false, leb-true}
+use Rattle.layouts.specs.Answer.{Answer, refused, nothing, gives, ◌when◌, refusal}
+use Rattle.layouts.specs.Refusals.{refusal_number}
+use Rattle.layouts.specs.declared.refusal.Refusal.{Refusal}
+use Rattle.layouts.proofs.Back.{refusal_at, undo_refusal, known, number_back}
 use Rattle.layouts.specs.Gst.{svn_gst_checks}
 use Rattle.layouts.specs.Lists.{put as put_at}
-use Rattle.layouts.proofs.Answers.{none_fails, answer_of}
+use Rattle.layouts.proofs.Answers.{answer_of}
 use Rattle.page_replay.specs.Replay.{State, no_totals, Run, replayed, pages_of, whole_pages, most, are_few, replay_checks}
 use Rattle.page_replay.proofs.PageSteps.{start_admitted}
 use Rattle.page_replay.proofs.PageRefusals.{pages_many, all_few, legal, call_admitted}
-use Rattle.page_replay.proofs.PagePieces.{split_anywhere, Good, good_onward, zeros_small}
+use Rattle.page_replay.proofs.PagePieces.{split_anywhere, Good, good_first_page, good_onward}
 use Rattle.subframes.proofs.SubframeSound.{sound_admitted}
 use Rattle.texts.specs.Arguments.{arguments_answer}
 use Rattle.texts.specs.Decimal.{number}
 use Rattle.texts.proofs.Written.{put, length_put, taken as put_taken}
 use Rattle.listing.specs.Listing.{asked, refused_line, completed, page_lines, pages_in, totals_line, first, tells, ends}
-use Rattle.listing.specs.Pieces.{Running, Told, says, record_checks, checks, begun as begun_of, begin, are_whole, takes, together, run, next}
+use Rattle.listing.specs.Pieces.{Running, Told, says, room_checks, record_checks, checks, begun as begun_of, begin, are_whole, takes, together, run, next}
 use Rattle.listing.specs.Pieces.{fed as fed_of, feed, finish}
 use Rattle.listing.specs.PiecePromises.{state, meaning_listing, outcome}
 use Rattle.listing.specs.Histories.{taken, written, Misfit, History, begun, fed, misfit, SoFar, AtTheEnd, Onward, Taken, AnyInput, ListingIsTold}
@@ -177,16 +180,27 @@ module _ (l : List ℕ) (s : Running) (input piece : List ℕ) (k : Kept l s inp
 
 -- What a call does.
 data Feeds (s : Running) (piece out : List ℕ) : Type 0 where
-  refuses : (q : ℕ) → feed s piece out ≡ not_told s q out → Feeds s piece out
+  refuses : (q : Refusal) → feed s piece out ≡ not_told s (refusal_number q) out → Feeds s piece out
   ended : s.over ≡ true → feed s piece out ≡ says s (length piece) [] out → Feeds s piece out
   does : s.over ≡ false → refusal (checks s out) ≡ 0 → feed s piece out ≡ fed_of s piece out → Feeds s piece out
+
+-- its checks give no other numbers than those of refusals
+checks_known : (s : Running) (out : List ℕ) → T (known (checks s out))
+checks_known s out = go s.over
+  where
+    go : (b : Bool) → T (known (room_checks out ++ cond b [] (replay_checks s.replay 15 ++ (12 when ltb 29 s.held ∷ []))))
+    go true = tt
+    go false = tt
 
 feeds : (s : Running) (piece out : List ℕ) → Feeds s piece out
 unfolding feed
 feeds s piece out = go (eqb (refusal (checks s out)) 0) s.over refl refl
   where
     go : (x y : Bool) → eqb (refusal (checks s out)) 0 ≡ x → s.over ≡ y → Feeds s piece out
-    go false y e o = refuses (refusal (checks s out)) (rw e)
+    go false y e o =
+        let f : feed s piece out ≡ not_told s (refusal (checks s out)) out = rw e in
+        refuses (refusal_at (refusal (checks s out)))
+        (f ∙ ap (λ (n : ℕ). not_told s n out) (sym (number_back (checks s out) (checks_known s out) (eqb-false _ 0 e))))
     go true true e o = ended o (rw (e, o))
     go true false e o = does o (eqb-true _ 0 e) (rw (e, o))
 
@@ -316,32 +330,8 @@ so_far arguments l h m d input output k = so_far_told (asked arguments) (state l
 -- No call that goes on is refused while the totals are few.
 first_good : (l : List ℕ) → is_legal l → Good (first l) 0
 first_good l e =
-    let f = none_fails (svn_gst_checks (get_or l 0 0) (get_or l 1 0) (get_or l 2 0)) tt e in
-    record {
-      sound =
-          record {
-            some = ltb-false (get_or l 0 0) 1 f.0;
-            few = ltb-false 36 (get_or l 0 0) f.1.0;
-            in_weeks = ltb-false 4095 (get_or l 1 0) f.1.1.0;
-            in_week = ltb-false 604799 (get_or l 2 0) f.1.1.1.0;
-            pages_few = omega arith;
-            skipped_few = omega arith;
-            used_few = omega arith;
-            unused_few = omega arith;
-            subframes_few = omega arith;
-            dsms_few = omega arith;
-            silent_few = omega arith;
-          };
-      collector =
-          record {
-            h540 = length-replicate {A = ℕ} 540 0;
-            m2160 = length-replicate {A = ℕ} 2160 0;
-            week_fits = omega arith;
-            subframe_fits = omega arith;
-            all_small = zeros_small;
-          };
-      dsms = record { d208 = length-replicate {A = ℕ} 208 0; id_low = omega arith };
-    }
+    good_first_page (get_or l 0 0) (get_or l 1 0) (get_or l 2 0) (replicate 540 0) (replicate 2160 0) (replicate 208 0) e
+    (length-replicate {A = ℕ} 540 0) (length-replicate {A = ℕ} 2160 0) (length-replicate {A = ℕ} 208 0)
 
 run_good : (l : List ℕ) → is_legal l → (pages : List (List ℕ)) → Good (replayed (first l) pages).state (0 + length pages)
 unfolding replayed
@@ -350,7 +340,7 @@ run_good l e pages = good_onward pages (record { state = first l; subframes = []
 admits : (s : State) (n : ℕ) → Good s n → are_few s.totals ≡ true → 0 ≡ refusal (replay_checks s 15)
 admits s n g e =
     let f = g.sound in
-    call_admitted s 15 g.dsms.d208 (sound_admitted s.subframes g.collector) refl g.dsms.id_low (sym e) refl
+    call_admitted s 15 g.dsms.d208 (sound_admitted s.subframes g.collector) refl g.dsms.id_low (sym e)
     (start_admitted s.satellite s.next.week s.next.time f.some f.few f.in_weeks f.in_week) refl (omega arith)
 
 kept_admits : (l : List ℕ) (s : Running) (input : List ℕ) → is_legal l → Kept l s input → are_few s.replay.totals ≡ true → 0 ≡ refusal (record_checks s)
@@ -418,11 +408,11 @@ onward arguments l h m d input output k f piece out r h' m' d' out' room e =
 
 -- Every input has a history: what the definitions say is what some answer of the code means.
 data Shaped : Answer → Type 0 where
-  shaped_refused : {n : ℕ} → Shaped (refused n)
+  shaped_refused : (q : Refusal) → Shaped (refused (refusal_number q))
   shaped_told : {k n : ℕ} → Shaped (gives (k ∷ n ∷ []))
 
 shaped_back : {a : Answer} → Shaped a → meaning_listing (back_answer a) ≡ a
-shaped_back shaped_refused = refl
+shaped_back (shaped_refused q) = ap (λ (e : Refusal). refused (refusal_number e)) (undo_refusal q)
 shaped_back shaped_told = refl
 
 realized :
@@ -438,7 +428,7 @@ unfolding fed_of
 feed_shaped s piece out = go (feeds s piece out)
   where
     go : Feeds s piece out → Shaped (feed s piece out).answer
-    go (refuses q f) = subst⁻¹ (λ (t : Told). Shaped t.answer) f shaped_refused
+    go (refuses q f) = subst⁻¹ (λ (t : Told). Shaped t.answer) f (shaped_refused q)
     go (ended o f) = subst⁻¹ (λ (t : Told). Shaped t.answer) f shaped_told
     go (does o z f) = subst⁻¹ (λ (t : Told). Shaped t.answer) f shaped_told
 

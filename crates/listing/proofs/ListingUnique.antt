@@ -8,21 +8,24 @@ use Rattle.page_replay.proofs.ReplayUnique.{back_state}
 use Rattle.listing.specs.Pieces.{Told}
 use Rattle.listing.specs.PiecePromises.{meaning_listing, outcome}
 use Rattle.listing.specs.Agreed.{Agreed}
-use Rattle.listing.specs.declared.pieces.ListingAnswer.{ListingAnswer}
-use Rattle.listing.specs.declared.pieces.ListingAnswer.TheVariants.{Refused, Told as TookAndWrote}
+use Rattle.std.specs.Prelude.{Result, Ok, Err}
+use Rattle.layouts.specs.declared.refusal.Refusal.{Refusal}
+use Rattle.layouts.specs.declared.refusal.Refusal.TheVariants.{SliceLength}
+use Rattle.layouts.proofs.Back.{refusal_at, undo_refusal}
+use Rattle.listing.specs.declared.pieces.Told.{Told as TookAndWrote}
 use Rattle.listing.specs.declared.pieces.ListingStep.{ListingStep}
 
 -- `back` undoes the `meaning`
-abbrev pub back_answer : Answer → ListingAnswer
-back_answer (refused n) = Refused n
-back_answer nothing = Refused 0
-back_answer (gives []) = Refused 0
-back_answer (gives (k ∷ [])) = Refused 0
-back_answer (gives (k ∷ n ∷ l)) = TookAndWrote k n
+abbrev pub back_answer : Answer → Result TookAndWrote Refusal
+back_answer (refused n) = Err (refusal_at n)
+back_answer nothing = Err SliceLength
+back_answer (gives []) = Err SliceLength
+back_answer (gives (k ∷ [])) = Err SliceLength
+back_answer (gives (k ∷ n ∷ l)) = Ok (record { taken = k; written = n })
 
-undo_answer : (r : ListingAnswer) → back_answer (meaning_listing r) ≡ r
-undo_answer (Refused n) = refl
-undo_answer (TookAndWrote k n) = refl
+undo_answer : (r : Result TookAndWrote Refusal) → back_answer (meaning_listing r) ≡ r
+undo_answer (Err e) = ap Err (undo_refusal e)
+undo_answer (Ok t) = refl
 
 abbrev pub back : Told → ListingStep
 back t =
@@ -32,9 +35,9 @@ back t =
     }
 
 whole : (r : ListingStep) (h m d out : List ℕ) → r ≡ back (outcome r h m d out)
-whole r h m d out = ap (λ (a : ListingAnswer). with_answer r a) (sym (undo_answer r.answer))
+whole r h m d out = ap (λ (a : Result TookAndWrote Refusal). with_answer r a) (sym (undo_answer r.answer))
   where
-    with_answer : ListingStep → ListingAnswer → ListingStep
+    with_answer : ListingStep → Result TookAndWrote Refusal → ListingStep
     with_answer s a = record { listing = s.listing; answer = a }
 
 module _ (r s : ListingStep) (h m d o h' m' d' o' : List ℕ) (e : outcome r h m d o ≡ outcome s h' m' d' o') where

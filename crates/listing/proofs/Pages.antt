@@ -1,35 +1,25 @@
 -- Laws of pages: files that are put together, and their lines.
 -- Assumes nothing.
-use Prim.Native.Nat.{ℕ, zero, suc, ◌+◌, ◌*◌, ◌%◌, ◌≤◌}
-use native.Mathlib.Nat.{add-zero, zero-add, suc-add}
+use Prim.Native.Nat.{ℕ, ◌+◌, ◌*◌, ◌%◌, ◌≤◌}
+use native.Mathlib.Nat.{add-zero}
 use native.Mathlib.Omega.{arith}
 use mathlib.Core.Path.{◌≡◌, refl, sym, ap, ◌∙◌}
 use mathlib.Core.List.{List, [], ◌∷◌, ◌++◌, append-nil, append_assoc}
 use mathlib.Core.Bool.{Bool, true, false, cond}
-use lib.ListN.{length, take, drop, length-append, length-drop, take-append-drop}
-use lib.Seq.{length-take-le, take-append-le, drop-append-le, drop-append-add}
+use lib.ListN.{length, take, drop, length-append, take-append-drop}
+use lib.Seq.{length-take-le, drop-append-add}
 use Rattle.layouts.specs.InavPage.{is_counted}
 use Rattle.subframes.specs.Subframe.{State as Subframes, feed as feed_page}
 use Rattle.dsms.specs.Dsm.{State as Dsms}
-use Rattle.page_replay.specs.Replay.{Time, Dsm, State, Run, subframes_in, dsms_in, passed_on, skipped, counted, fed_page, fed, page_step, and_then, replayed}
+use Rattle.page_replay.specs.Replay.{Time, Dsm, State, Run, subframes_in, dsms_in, passed_on, skipped, counted, fed_page, fed, page_step, replayed}
 use Rattle.page_replay.specs.Replay.{pages_of, whole_pages}
 use Rattle.page_replay.specs.Pieces.{followed_by}
 use Rattle.page_replay.proofs.PageFold.{at_most_one}
-use Rattle.page_replay.proofs.PagePieces.{split_anywhere}
+use Rattle.page_replay.proofs.PagePieces.{pages_join}
+use Rattle.page_replay.proofs.PagesFed.{one_more, step_place}
 use Rattle.listing.specs.Listing.{subframe_lines, dsm_lines, completed, page_lines, pages_in}
 
--- The pages of bytes that are put together.
-pages_join : (k m : ℕ) (a b : List ℕ) → length a ≡ 30 * k → pages_of (k + m) (a ++ b) ≡ pages_of k a ++ pages_of m b
-unfolding pages_of
-pages_join zero m [] b e = ap (λ (j : ℕ). pages_of j b) (zero-add m)
-pages_join zero m (x ∷ a) b e = let e : suc (length a) ≡ 0 = e in absurd (omega arith)
-pages_join (suc k) m a b e =
-    let first : take 30 (a ++ b) ≡ take 30 a = take-append-le 30 a b (omega arith) in
-    let rest : drop 30 (a ++ b) ≡ drop 30 a ++ b = drop-append-le 30 a b (omega arith) in
-    let short : length (drop 30 a) ≡ 30 * k = rw length-drop (omega arith) in
-    ap (λ (j : ℕ). pages_of j (a ++ b)) (suc-add k m) ∙ rw (first, rest, pages_join k m (drop 30 a) b short)
-
--- what is left behind the whole pages
+-- Bytes that are put together. What is left behind the whole pages:
 abbrev pub tail_of : List ℕ → List ℕ
 tail_of bytes = drop (30 * whole_pages bytes) bytes
 
@@ -105,21 +95,7 @@ step_alone s page = go (is_counted page)
     go true h = none_passed (subframes_in (feed_page s.subframes (fed_page s page)).answer) _ _ _ h
     go false h = refl
 
-step_satellite : (s : State) (page : List ℕ) → (page_step s page).state.satellite ≡ s.satellite
-unfolding page_step fed counted skipped
-step_satellite s page = go (is_counted page)
-  where
-    go : (b : Bool) → (cond b (fed s (fed_page s page)) (skipped s)).state.satellite ≡ s.satellite
-    go true = refl
-    go false = refl
-
 -- One page, and the others.
-replayed_first :
-    (s : State) (page : List ℕ) (pages : List (List ℕ))
-    → replayed s (page ∷ pages) ≡ followed_by (page_step s page) (replayed (page_step s page).state pages)
-unfolding replayed and_then
-replayed_first s page pages = split_anywhere s (page ∷ []) pages
-
 nil_first : (a b : List Time) → a ++ b ≡ [] → (a ≡ []) × (b ≡ [])
 nil_first [] b e = (refl, e)
 nil_first (x ∷ a) b e = let z : ◌≡◌ {A = ℕ} 0 1 = cc in absurd (omega arith)
@@ -128,7 +104,7 @@ replayed_alone : (pages : List (List ℕ)) (s : State) → Alone (replayed s pag
 unfolding replayed
 replayed_alone [] s h = refl
 replayed_alone (page ∷ pages) s h =
-    let f = replayed_first s page pages in
+    let f = one_more s page pages in
     let both = nil_first (page_step s page).subframes (replayed (page_step s page).state pages).subframes (sym (ap (λ (r : Run). r.subframes) f) ∙ h) in
     ap (λ (r : Run). r.dsms) f ∙ rw (step_alone s page both.0, replayed_alone pages (page_step s page).state both.1)
 
@@ -146,11 +122,11 @@ lines_once [] s h = refl
 lines_once (page ∷ pages) s h =
     let x : Run = page_step s page in
     let y : Run = replayed x.state pages in
-    let f : replayed s (page ∷ pages) ≡ followed_by x y = replayed_first s page pages in
+    let f : replayed s (page ∷ pages) ≡ followed_by x y = one_more s page pages in
     let many : length (x.subframes ++ y.subframes) ≤ 1 = rw (ap (λ (r : Run). length r.subframes) f) at h in
     let few : length y.subframes ≤ 1 = omega (arith, length-append x.subframes y.subframes) in
     ap (λ (l : List ℕ). completed s.satellite x ++ l) (lines_once pages x.state few)
-    ∙ ap (λ (n : ℕ). completed s.satellite x ++ completed n y) (step_satellite s page)
+    ∙ ap (λ (n : ℕ). completed s.satellite x ++ completed n y) (step_place s page).0
     ∙ lines_join s.satellite x.subframes y.subframes x.dsms y.dsms many (step_alone s page) (replayed_alone pages x.state)
     ∙ ap (completed s.satellite) (sym f)
 
@@ -164,6 +140,6 @@ unfolding page_lines replayed
 lines_append [] qs s = refl
 lines_append (p ∷ ps) qs s =
     let x : State = (page_step s p).state in
-    let f : (replayed x ps).state ≡ (replayed s (p ∷ ps)).state = ap (λ (r : Run). r.state) (sym (replayed_first s p ps)) in
+    let f : (replayed x ps).state ≡ (replayed s (p ∷ ps)).state = ap (λ (r : Run). r.state) (sym (one_more s p ps)) in
     ap (λ (l : List ℕ). completed s.satellite (page_step s p) ++ l) (lines_append ps qs x ∙ ap (λ (t : State). page_lines x ps ++ page_lines t qs) f)
     ∙ sym (append_assoc (completed s.satellite (page_step s p)) (page_lines x ps) (page_lines (replayed s (p ∷ ps)).state qs))

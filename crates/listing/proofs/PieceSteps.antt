@@ -16,14 +16,15 @@ use Rattle.layouts.specs.Lists.{put}
 use Rattle.layouts.proofs.Answers.{stopped, went_on, converse, answer_of}
 use Rattle.page_replay.specs.Replay.{State, pages_of, consumed, replayed, replay_checks, Outcome, replay, begun as replay_begun}
 use Rattle.page_replay.specs.ReplayPromises.{meaning_replay, state as replay_state, outcome as replay_outcome}
-use Rattle.page_replay.specs.declared.replay.ReplayAnswer.{ReplayAnswer}
-use Rattle.page_replay.specs.declared.replay.ReplayAnswer.TheVariants.{Refused as ReplayRefused, Consumed}
+use Rattle.std.specs.Prelude.{Result, Ok, Err}
+use Rattle.std.specs.Result.{IsErr}
+use Rattle.layouts.specs.Refusals.{refusal_number, refused_by}
+use Rattle.layouts.specs.declared.gst.Stamp.{Stamp}
+use Rattle.layouts.specs.declared.refusal.Refusal.{Refusal}
 use Rattle.page_replay.specs.declared.replay.PageReplay.{PageReplay}
 use Rattle.page_replay.specs.declared.replay.Replayed.{Replayed}
 use Rattle.texts.specs.Arguments.{text_checks, arguments_answer, meaning_arguments}
 use Rattle.texts.specs.Decimal.{number}
-use Rattle.texts.specs.declared.arguments.Arguments.{Arguments}
-use Rattle.texts.specs.declared.arguments.Arguments.TheVariants.{Refused as NotGiven, Given}
 use Rattle.listing.specs.Listing.{refused_line, completed, totals_line, pages_in}
 use Rattle.listing.specs.Pieces.{Running, Told, record_checks, checks, unless_refused, says, none, begun, begin, are_whole, takes, together, next, run}
 use Rattle.listing.specs.Pieces.{fed, feed, finish}
@@ -117,10 +118,10 @@ not_refused s out g e = go (ltb (length out) 256) e (called s.replay [] 15)
 abbrev pub not_told : Running → ℕ → List ℕ → Told
 not_told s q out = record { state = s; answer = refused q; out = out }
 
-refused_by :
+refused_with :
     (s : Running) (out : List ℕ) (t : Told) {q : ℕ} → (q ≡ 0 → ⊥) → q ≡ refusal (checks s out)
     → not_told s q out ≡ unless_refused (refusal (checks s out)) s out t
-refused_by s out t {q} ne e = let z : not_told s q out ≡ unless_refused q s out t = rw (ne_eqb q 0 ne) in z ∙ ap (λ (n : ℕ). unless_refused n s out t) e
+refused_with s out t {q} ne e = let z : not_told s q out ≡ unless_refused q s out t = rw (ne_eqb q 0 ne) in z ∙ ap (λ (n : ℕ). unless_refused n s out t) e
 
 told_by_lem : (s : Running) (out : List ℕ) (t : Told) → 0 ≡ refusal (checks s out) → t ≡ unless_refused (refusal (checks s out)) s out t
 told_by_lem s out t e = ap (λ (n : ℕ). unless_refused n s out t) e
@@ -128,11 +129,11 @@ told_by_lem s out t e = ap (λ (n : ℕ). unless_refused n s out t) e
 module _ (s : Running) (piece out : List ℕ) where
   pub feed_short : length out < 256 → not_told s 1 out ≡ feed s piece out
   unfolding feed
-  feed_short h = refused_by s out _ (λ z. let z : ◌≡◌ {A = ℕ} 1 0 = z in absurd (omega arith)) (room_short s out h)
+  feed_short h = refused_with s out _ (λ z. let z : ◌≡◌ {A = ℕ} 1 0 = z in absurd (omega arith)) (room_short s out h)
 
   pub feed_refused : {q : ℕ} → 256 ≤ length out → (q ≡ 0 → ⊥) → q ≡ refusal (record_checks s) → not_told s q out ≡ feed s piece out
   unfolding feed
-  feed_refused r ne e = refused_by s out _ ne (room_pass s out r e)
+  feed_refused r ne e = refused_with s out _ ne (room_pass s out r e)
 
   pub feed_over : 256 ≤ length out → s.over ≡ true → says s (length piece) [] out ≡ feed s piece out
   unfolding feed refusal
@@ -207,7 +208,7 @@ module _ (s : Running) (piece out bytes : List ℕ) (k : Kept) (r : Ready s out)
 module _ (s : Running) (out : List ℕ) where
   pub finish_short : length out < 256 → not_told s 1 out ≡ finish s out
   unfolding finish
-  finish_short h = refused_by s out _ (λ z. let z : ◌≡◌ {A = ℕ} 1 0 = z in absurd (omega arith)) (room_short s out h)
+  finish_short h = refused_with s out _ (λ z. let z : ◌≡◌ {A = ℕ} 1 0 = z in absurd (omega arith)) (room_short s out h)
 
   pub finish_over : 256 ≤ length out → s.over ≡ true → says s 0 [] out ≡ finish s out
   unfolding finish refusal
@@ -215,7 +216,7 @@ module _ (s : Running) (out : List ℕ) where
 
   pub finish_refused : {q : ℕ} → 256 ≤ length out → (q ≡ 0 → ⊥) → q ≡ refusal (record_checks s) → not_told s q out ≡ finish s out
   unfolding finish
-  finish_refused r ne e = refused_by s out _ ne (room_pass s out r e)
+  finish_refused r ne e = refused_with s out _ ne (room_pass s out r e)
 
   pub finish_done : 256 ≤ length out → s.over ≡ false → 0 ≡ refusal (record_checks s) → says s 0 (totals_line s.replay.totals s.held) out ≡ finish s out
   unfolding finish
@@ -301,13 +302,13 @@ puts_says x taken text out {after} {w} p =
     ap (λ (k : ℕ). says_as x taken k after) many ∙ ap (says_as x taken (length text)) p.bytes
 
 module _ (l : Listing) (k : Kept) (done : Replayed) (out h m d : List ℕ) where
-  pub tell_refused : {n : ℕ} → done.answer ≡ ReplayRefused n → not_told (state l h m d) n out ≡ tells (state l h m d) k (replay_outcome done h m d) out
-  tell_refused e = ap (λ (a : ReplayAnswer). told_by (meaning_replay a) (state l h m d) out (after (state l h m d) k (replay_outcome done h m d) out)) (sym e)
+  pub tell_refused : {q : Refusal} → done.answer ≡ Err q → not_told (state l h m d) (refusal_number q) out ≡ tells (state l h m d) k (replay_outcome done h m d) out
+  tell_refused e = ap (λ (a : Result ℕ Refusal). told_by (meaning_replay a) (state l h m d) out (after (state l h m d) k (replay_outcome done h m d) out)) (sym e)
 
   pub tell_done :
-      {c : ℕ} → done.answer ≡ Consumed c → {t : Told} → t ≡ after (state l h m d) k (replay_outcome done h m d) out
+      {c : ℕ} → done.answer ≡ Ok c → {t : Told} → t ≡ after (state l h m d) k (replay_outcome done h m d) out
       → t ≡ tells (state l h m d) k (replay_outcome done h m d) out
-  tell_done e f = f ∙ ap (λ (a : ReplayAnswer). told_by (meaning_replay a) (state l h m d) out (after (state l h m d) k (replay_outcome done h m d) out)) (sym e)
+  tell_done e f = f ∙ ap (λ (a : Result ℕ Refusal). told_by (meaning_replay a) (state l h m d) out (after (state l h m d) k (replay_outcome done h m d) out)) (sym e)
 
 -- the lent memory as it was
 pub same_memory : (l : Listing) (p q : PageReplay) (h m d x y z : List ℕ) → replay_state p x y z ≡ replay_state q h m d → state l x y z ≡ state l h m d
@@ -328,17 +329,20 @@ module _ (many : ℕ) (satellite week time out : List ℕ) where
   begun_is h = rw (le-ltb (length out) 256 h)
 
   pub begin_refused :
-      {a : Arguments} {n : ℕ} {x : Running} {t : Told} → 256 ≤ length out → meaning_arguments a ≡ arguments_answer many satellite week time
-      → a ≡ NotGiven n
-      → x ≡ fresh 0 0 0 true → t ≡ says x 0 (refused_line n) out → t ≡ begin many satellite week time out
-  begin_refused {n = n} h e f g k =
-      k ∙ ap (λ (y : Running). says y 0 (refused_line n) out) (g ∙ fresh_none true)
+      {a : Result Stamp Refusal} {q : Refusal} {x : Running} {t : Told} → 256 ≤ length out → meaning_arguments a ≡ arguments_answer many satellite week time
+      → a ≡ Err q
+      → x ≡ fresh 0 0 0 true → t ≡ says x 0 (refused_line (refusal_number q)) out → t ≡ begin many satellite week time out
+  begin_refused {q = q} h e f g k =
+      k ∙ ap (λ (y : Running). says y 0 (refused_line (refusal_number q)) out) (g ∙ fresh_none true)
       ∙ ap (λ (b : Answer). begun b out) (ap meaning_arguments (sym f) ∙ e) ∙ begun_is h
 
   pub begin_given :
-      {a : Arguments} {s w t : ℕ} {x : Running} → 256 ≤ length out → meaning_arguments a ≡ arguments_answer many satellite week time → a ≡ Given s w t
-      → x ≡ fresh s w t false → ◌≡◌ {A = Told} (record { state = x; answer = gives (0 ∷ 0 ∷ []); out = out }) (begin many satellite week time out)
-  begin_given {a} {s} {w} {t} {x} h e f g =
+      {a : Result Stamp Refusal} (p : Stamp) {x : Running} → 256 ≤ length out → meaning_arguments a ≡ arguments_answer many satellite week time → a ≡ Ok p
+      → x ≡ fresh p.satellite p.week p.time false → ◌≡◌ {A = Told} (record { state = x; answer = gives (0 ∷ 0 ∷ []); out = out }) (begin many satellite week time out)
+  begin_given {a} p {x} h e f g =
+      let s : ℕ = p.satellite in
+      let w : ℕ = p.week in
+      let t : ℕ = p.time in
       let given : gives (s ∷ w ∷ t ∷ []) ≡ arguments_answer many satellite week time = ap meaning_arguments (sym f) ∙ e in
       nothing_said x
       ∙ ap (λ (y : Running). says y 0 [] out) (g ∙ legal_fresh s w t (asked_legal many satellite week time given))
@@ -355,14 +359,31 @@ module _ (l : Listing) (h m d page : List ℕ) (done : Replayed) {x y z : List �
       let s = asked_same (state l h m d) page g e in
       (ap (λ (t : State). t.subframes.hkroot) s, ap (λ (t : State). t.subframes.mack) s, ap (λ (t : State). t.dsms.memory) s)
 
-  pub refuses_first : {n : ℕ} → done.answer ≡ ReplayRefused n → (n ≡ refusal (record_checks (state l h m d))) × ((x ≡ h) × (y ≡ m) × (z ≡ d))
-  refuses_first a = ((asked_refused (state l h m d) page g e (ap meaning_replay a)).0, still)
+  pub refuses_first : (q : Refusal) → done.answer ≡ Err q → (refusal_number q ≡ refusal (record_checks (state l h m d))) × ((x ≡ h) × (y ≡ m) × (z ≡ d))
+  refuses_first q a = ((asked_refused (state l h m d) page g e (ap meaning_replay a)).0, still)
 
-  pub refuses_high : {n : ℕ} → done.answer ≡ Consumed n → 29 < l.held → (12 ≡ refusal (record_checks (state l h m d))) × ((x ≡ h) × (y ≡ m) × (z ≡ d))
+  pub refuses_high : {n : ℕ} → done.answer ≡ Ok n → 29 < l.held → (12 ≡ refusal (record_checks (state l h m d))) × ((x ≡ h) × (y ≡ m) × (z ≡ d))
   refuses_high a k = (asked_high (state l h m d) page g e (ap meaning_replay a) k, still)
 
-  pub refuses_none : {n : ℕ} → done.answer ≡ Consumed n → l.held ≤ 29 → (0 ≡ refusal (record_checks (state l h m d))) × ((x ≡ h) × (y ≡ m) × (z ≡ d))
+  pub refuses_none : {n : ℕ} → done.answer ≡ Ok n → l.held ≤ 29 → (0 ≡ refusal (record_checks (state l h m d))) × ((x ≡ h) × (y ≡ m) × (z ≡ d))
   refuses_none a k = (asked_none (state l h m d) page g e (ap meaning_replay a) k, still)
+
+-- More held bytes than a page has are refused.
+pub held_refused : (l : Listing) (h m d : List ℕ) → l.over ≡ false → 29 < l.held → refusal (record_checks (state l h m d)) ≡ 0 → ⊥
+held_refused l h m d g k w = go (called l_replay [] 15)
+  where
+    l_replay : State
+    l_replay = replay_state l.replay h m d
+
+    go : Called l_replay [] 15 → ⊥
+    go (goes n f) =
+        let t : 12 ≡ refusal (record_checks (state l h m d)) = record_held (state l h m d) g n (held_high (state l h m d) k) in
+        omega (arith, t, w)
+    go (stops n f) = n (record_stops (state l h m d) g refl n ∙ w)
+
+pub is_refused : {A : Type 0} (r : Result A Refusal) {q : ℕ} → refused_by r ≡ q → (q ≡ 0 → ⊥) → IsErr r
+is_refused (Err e) f ne = refl
+is_refused (Ok x) f ne = absurd (ne (sym f))
 
 -- Refused with the memory as it was.
 module _ (l : Listing) (h m d out : List ℕ) {q : ℕ} {x y z : List ℕ} (r : 256 ≤ length out) (e : q ≡ refusal (record_checks (state l h m d)))
@@ -371,19 +392,7 @@ module _ (l : Listing) (h m d out : List ℕ) {q : ℕ} {x y z : List ℕ} (r : 
   as_it_was = ap (λ (t : List ℕ). state l t y z) f.0 ∙ ap (λ (t : List ℕ). state l h t z) f.1 ∙ ap (λ (t : List ℕ). state l h m t) f.2
 
   pub feed_high : (piece : List ℕ) → l.over ≡ false → 29 < l.held → not_told (state l x y z) q out ≡ feed (state l h m d) piece out
-  feed_high piece g k = ap (λ (t : Running). not_told t q out) as_it_was ∙ feed_refused (state l h m d) piece out r (λ w. high (sym e ∙ w)) e
-    where
-      high : refusal (record_checks (state l h m d)) ≡ 0 → ⊥
-      high w = go (called (l_replay) [] 15)
-        where
-          l_replay : State
-          l_replay = replay_state l.replay h m d
-
-          go : Called l_replay [] 15 → ⊥
-          go (goes n f) =
-              let t : 12 ≡ refusal (record_checks (state l h m d)) = record_held (state l h m d) g n (held_high (state l h m d) k) in
-              omega (arith, t, w)
-          go (stops n f) = n (record_stops (state l h m d) g refl n ∙ w)
+  feed_high piece g k = ap (λ (t : Running). not_told t q out) as_it_was ∙ feed_refused (state l h m d) piece out r (λ w. held_refused l h m d g k (sym e ∙ w)) e
 
   pub finish_stopped : (q ≡ 0 → ⊥) → not_told (state l x y z) q out ≡ finish (state l h m d) out
   finish_stopped ne = ap (λ (t : Running). not_told t q out) as_it_was ∙ finish_refused (state l h m d) out r ne e

@@ -1,21 +1,21 @@
 -- What the functions of the listing promise, and the paper's numbers and values for each case of their answers.
 -- Assumes nothing.
-use Rattle.std.specs.Prelude.{ℕ, List, [], ◌∷◌, ◌≡◌}
-use Rattle.layouts.specs.Answer.{Answer, refused, gives}
+use Rattle.std.specs.Prelude.{ℕ, List, [], ◌∷◌, ◌≡◌, Result}
+use Rattle.layouts.specs.Answer.{Answer}
+use Rattle.layouts.specs.Refusals.{answer_of}
+use Rattle.layouts.specs.declared.refusal.Refusal.{Refusal}
 use Rattle.page_replay.specs.ReplayPromises.{state as replay_state}
 use Rattle.listing.specs.Pieces.{Running, Told, begin, feed, finish}
 use Rattle.listing.specs.declared.pieces.Listing.{Listing}
-use Rattle.listing.specs.declared.pieces.ListingAnswer.{ListingAnswer}
-use Rattle.listing.specs.declared.pieces.ListingAnswer.TheVariants.{Refused, Told as TookAndWrote}
+use Rattle.listing.specs.declared.pieces.Told.{Told as TookAndWrote}
 use Rattle.listing.specs.declared.pieces.ListingStep.{ListingStep}
 
 -- the record with the lent memory beside it
 abbrev pub state : Listing → List ℕ → List ℕ → List ℕ → Running
 state l hkroot mack memory = record { replay = replay_state l.replay hkroot mack memory; page = l.page; held = l.held; over = l.over }
 
-abbrev pub meaning_listing : ListingAnswer → Answer
-meaning_listing (Refused n) = refused n
-meaning_listing (TookAndWrote taken written) = gives (taken ∷ written ∷ [])
+abbrev pub meaning_listing : Result TookAndWrote Refusal → Answer
+meaning_listing r = answer_of (λ (t : TookAndWrote). t.taken ∷ t.written ∷ []) r
 
 -- the record and the answer handed back, with the lent bytes then
 abbrev pub outcome : ListingStep → List ℕ → List ℕ → List ℕ → List ℕ → Told

@@ -1,22 +1,23 @@
 // The listing in pieces: the input comes in pieces of any sizes, and so does what is to be printed.
 ghost use Rattle.std.specs.Prelude.{◌≡◌, true, false, ◌&&◌, List, [], ℕ, ◌+◌, ◌≤◌, length, take, leb, eqb};
 ghost use Rattle.layouts.specs.Answer.{refusal};
+ghost use Rattle.layouts.specs.Refusals.{refused_by};
 ghost use Rattle.layouts.specs.Lists.{put as put_of};
 ghost use Rattle.page_replay.specs.ReplayPromises.{outcome as replay_outcome};
 ghost use Rattle.listing.specs.Pieces.{are_whole, record_checks};
 ghost use Rattle.listing.specs.PiecePromises.{state, outcome, BeginListing, FeedListing, FinishListing};
-ghost use Rattle.listing.specs.inner.Steps.{fresh, tells, Ready};
+ghost use Rattle.listing.specs.inner.Steps.{fresh, tells, refused_as, told_as, Ready};
 
 use crate::put;
-use layouts::numbers::smaller;
+use layouts::gst::Stamp;
+use layouts::refusal::Refusal;
 use page_replay::replay;
-use page_replay::replay::{PageReplay, ReplayAnswer, Replayed};
+use page_replay::replay::{PageReplay, Replayed};
 use texts::arguments;
-use texts::arguments::Arguments;
-use texts::put::words;
+use texts::lines::Counted;
 
 // A listing between two calls: the page replay, and the bytes of a page that is not whole yet. Once it is over, since the arguments were refused, nothing more
-// is written.
+// is written. The record goes by value, in fixed memory: so an array and how many of its bytes are held.
 #[derive(Clone, Copy)]
 pub struct Listing {
     pub replay: PageReplay,
@@ -27,30 +28,57 @@ pub struct Listing {
 
 // How many bytes of the piece were taken, and how many were written to the lent output, from its start on.
 #[derive(Clone, Copy)]
-pub enum ListingAnswer {
-    Refused(u8),
-    Told { taken: usize, written: usize },
+pub struct Told {
+    pub taken: usize,
+    pub written: usize,
 }
 
 #[derive(Clone, Copy)]
 pub struct ListingStep {
     pub listing: Listing,
-    pub answer: ListingAnswer,
+    pub answer: Result<Told, Refusal>,
+}
+
+impl Listing {
+    // The record as it is, and why the call is refused.
+    fn refused(self, refusal: Refusal) -> ListingStep
+        ensures { (h m d o : List ℕ) → outcome result h m d o ≡ refused_as (state self h m d) refusal o }
+    {
+        ListingStep {
+            listing: self,
+            answer: Err(refusal),
+        }
+    }
+
+    // The record as it is, and what was taken and written.
+    fn told(self, taken: usize, written: usize) -> ListingStep
+        ensures { (h m d o : List ℕ) → outcome result h m d o ≡ told_as (state self h m d) taken written o }
+    {
+        ListingStep {
+            listing: self,
+            answer: Ok(Told { taken, written }),
+        }
+    }
 }
 
 // A listing of no pages yet.
-fn none(satellite: u8, week: u16, time: u32, over: bool) -> Listing
-    ensures { state result [] [] [] ≡ fresh satellite week time over }
+fn none(stamp: Stamp, over: bool) -> Listing
+    ensures { state result [] [] [] ≡ fresh stamp.satellite stamp.week stamp.time over }
 {
-    let begun = replay::new(satellite, week, time);
-    let replay = begun.replay;
     Listing {
-        replay,
+        replay: replay::new(stamp).replay,
         page: [0; 30],
         held: 0,
         over,
     }
 }
+
+// The record stands beside a refusal too: then it is of this time, which no page has.
+const NO_STAMP: Stamp = Stamp {
+    satellite: 0,
+    week: 0,
+    time: 0,
+};
 
 // Begins a listing from how many arguments there are and the first three. Where the arguments are refused that is written, and the listing is over. Refuses 1
 // for a lent output of less than 256 bytes, as the others do.
@@ -58,57 +86,34 @@ pub fn begin(many: usize, satellite: &[u8], week: &[u8], time: &[u8], out: &mut 
     ensures { BeginListing many satellite.now week.now time.now out.old result out.new }
 {
     if out.len() < 256 {
-        let listing = none(0, 0, 0, false);
-        return ListingStep {
-            listing,
-            answer: ListingAnswer::Refused(1),
-        };
+        return none(NO_STAMP, false).refused(Refusal::SliceLength);
     }
     match arguments::read(many, satellite, week, time) {
-        Arguments::Refused(n) => {
-            let listing = none(0, 0, 0, true);
-            let written = put::refused(out, n);
-            ListingStep {
-                listing,
-                answer: ListingAnswer::Told { taken: 0, written },
-            }
+        Err(refusal) => {
+            let written = put::refused(out, refusal);
+            none(NO_STAMP, true).told(0, written)
         }
-        Arguments::Given {
-            satellite: s,
-            week: w,
-            time: t,
-        } => {
-            let listing = none(s, w, t, false);
-            ListingStep {
-                listing,
-                answer: ListingAnswer::Told {
-                    taken: 0,
-                    written: 0,
-                },
-            }
-        }
+        Ok(stamp) => none(stamp, false).told(0, 0),
     }
 }
 
-// What is refused of a record that is not over, beside the room; 0 for none. A replay of no pages looks at all of it.
-fn refuses(listing: Listing, hkroot: &mut [u8], mack: &mut [u8], dsm: &mut [u8]) -> u8
+// The lent memory is three slices in each call, as `page_replay` has it.
+// What is refused of a record that is not over, beside the room. A replay of no pages looks at all of it.
+fn check(
+    listing: Listing,
+    hkroot: &mut [u8],
+    mack: &mut [u8],
+    dsm: &mut [u8],
+) -> Result<(), Refusal>
     requires { listing.over ≡ false }
-    ensures value { result ≡ refusal (record_checks (state listing hkroot.old mack.old dsm.old)) }
+    ensures value { refused_by result ≡ refusal (record_checks (state listing hkroot.old mack.old dsm.old)) }
     ensures hkroot_unchanged { (hkroot.new ≡ hkroot.old) × (mack.new ≡ mack.old) × (dsm.new ≡ dsm.old) }
 {
-    let record = listing.replay;
-    let page = listing.page;
-    let done = replay::replay(record, hkroot, mack, dsm, &page, 0);
-    let answer = done.answer;
-    match answer {
-        ReplayAnswer::Refused(n) => n,
-        ReplayAnswer::Consumed(_) => {
-            if 29 < listing.held {
-                return 12;
-            }
-            0
-        }
+    replay::replay(listing.replay, hkroot, mack, dsm, &listing.page, 0).answer?;
+    if 29 < listing.held {
+        return Err(Refusal::RecordRange);
     }
+    Ok(())
 }
 
 // Writes what a call of the page replay completed, and keeps the rest.
@@ -125,29 +130,17 @@ fn tell(
         ≡ tells (state listing h m d) (record { page = page; held = held; taken = taken })
         (replay_outcome done h m d) out.old }
 {
-    let answer = done.answer;
-    match answer {
-        ReplayAnswer::Refused(n) => ListingStep {
-            listing,
-            answer: ListingAnswer::Refused(n),
-        },
-        ReplayAnswer::Consumed(_) => {
-            let subframe = done.subframe;
-            let dsm = done.dsm;
-            let written = put::completed(out, listing.replay.satellite, subframe, dsm);
-            let replay = done.replay;
-            let next = Listing {
-                replay,
-                page,
-                held,
-                over: false,
-            };
-            ListingStep {
-                listing: next,
-                answer: ListingAnswer::Told { taken, written },
-            }
-        }
+    if let Err(refusal) = done.answer {
+        return listing.refused(refusal);
     }
+    let written = put::completed(out, listing.replay.next.satellite, done.subframe, done.dsm);
+    let next = Listing {
+        replay: done.replay,
+        page,
+        held,
+        over: false,
+    };
+    next.told(taken, written)
 }
 
 // Whole pages of the piece, fifteen at most.
@@ -164,11 +157,9 @@ fn feed_pages(
     ensures { FeedListing listing hkroot.old mack.old dsm.old piece.now out.old result
         hkroot.new mack.new dsm.new out.new }
 {
-    let record = listing.replay;
-    let page = listing.page;
-    let taken = 30 * smaller(15, piece.len() / 30);
-    let done = replay::replay(record, hkroot, mack, dsm, piece, 15);
-    tell(listing, page, 0, taken, done, out)
+    let taken = 30 * (piece.len() / 30).min(15);
+    let done = replay::replay(listing.replay, hkroot, mack, dsm, piece, 15);
+    tell(listing, listing.page, 0, taken, done, out)
 }
 
 // The first `many` bytes of the piece go into the page, behind the `held` that it has.
@@ -178,7 +169,8 @@ fn fill(page: [u8; 30], held: usize, piece: &[u8], many: usize) -> [u8; 30]
     ensures page_len { length page ≡ 30 }
 {
     let mut page = page;
-    words(&mut page, held, &piece[..many]);
+    let end = held + many;
+    page[held..end].copy_from_slice(&piece[..many]);
     page
 }
 
@@ -196,13 +188,10 @@ fn feed_page(
     ensures { FeedListing listing hkroot.old mack.old dsm.old piece.now out.old result
         hkroot.new mack.new dsm.new out.new }
 {
-    let record = listing.replay;
-    let before = listing.page;
-    let held = listing.held;
-    let taken = smaller(30 - held, piece.len());
-    let page = fill(before, held, piece, taken);
-    let many = held + taken;
-    let done = replay::replay(record, hkroot, mack, dsm, &page[..many], 15);
+    let taken = piece.len().min(30 - listing.held);
+    let page = fill(listing.page, listing.held, piece, taken);
+    let many = listing.held + taken;
+    let done = replay::replay(listing.replay, hkroot, mack, dsm, &page[..many], 15);
     tell(listing, page, many % 30, taken, done, out)
 }
 
@@ -210,10 +199,7 @@ fn feed_page(
 fn are_whole(held: usize, many: usize) -> bool
     ensures { result ≡ (eqb held 0 && leb 30 many) }
 {
-    if held != 0 {
-        return false;
-    }
-    30 <= many
+    held == 0 && 30 <= many
 }
 
 // Takes some of the piece, all of it where it is short, and writes what that completes. Refuses 1 for memory of other lengths too, and 12 for the record.
@@ -229,26 +215,13 @@ pub fn feed(
         hkroot.new mack.new dsm.new out.new }
 {
     if out.len() < 256 {
-        return ListingStep {
-            listing,
-            answer: ListingAnswer::Refused(1),
-        };
+        return listing.refused(Refusal::SliceLength);
     }
     if listing.over {
-        return ListingStep {
-            listing,
-            answer: ListingAnswer::Told {
-                taken: piece.len(),
-                written: 0,
-            },
-        };
+        return listing.told(piece.len(), 0);
     }
     if 29 < listing.held {
-        let n = refuses(listing, hkroot, mack, dsm);
-        return ListingStep {
-            listing,
-            answer: ListingAnswer::Refused(n),
-        };
+        return listing.refused(check(listing, hkroot, mack, dsm).unwrap_err());
     }
     if are_whole(listing.held, piece.len()) {
         return feed_pages(listing, hkroot, mack, dsm, piece, out);
@@ -268,36 +241,23 @@ pub fn finish(
         hkroot.new mack.new dsm.new out.new }
 {
     if out.len() < 256 {
-        return ListingStep {
-            listing,
-            answer: ListingAnswer::Refused(1),
-        };
+        return listing.refused(Refusal::SliceLength);
     }
     if listing.over {
-        return ListingStep {
-            listing,
-            answer: ListingAnswer::Told {
-                taken: 0,
-                written: 0,
-            },
-        };
+        return listing.told(0, 0);
     }
-    let n = refuses(listing, hkroot, mack, dsm);
-    if n != 0 {
-        return ListingStep {
-            listing,
-            answer: ListingAnswer::Refused(n),
-        };
+    if let Err(refusal) = check(listing, hkroot, mack, dsm) {
+        return listing.refused(refusal);
     }
     let record = listing.replay;
-    let pages = record.pages;
-    let skipped = record.skipped;
-    let subframes = record.subframes_done;
-    let dsms = record.dsms_done;
-    let silent = record.silent;
-    let written = put::totals(out, pages, skipped, subframes, dsms, silent, listing.held);
-    ListingStep {
-        listing,
-        answer: ListingAnswer::Told { taken: 0, written },
-    }
+    let counts = Counted {
+        pages: record.pages,
+        skipped: record.skipped,
+        subframes: record.subframes_done,
+        dsms: record.dsms_done,
+        silent: record.silent,
+        tail: listing.held,
+    };
+    let written = put::totals(out, counts);
+    listing.told(0, written)
 }

@@ -20,8 +20,10 @@ use Rattle.layouts.proofs.Answers.{none_fails}
 use Rattle.subframes.specs.Subframe.{feed_checks, used_answer, is_used, small, State as Subframes, Page, changed, used, offered, answer_at, is_silent}
 use Rattle.subframes.specs.Subframe.{zeros as are_zeros, feed as feed_page, view as view_page}
 use Rattle.subframes.specs.SubframePromises.{meaning_subframe}
-use Rattle.subframes.specs.declared.subframe.SubframeAnswer.{SubframeAnswer}
-use Rattle.subframes.specs.declared.subframe.SubframeAnswer.TheVariants.{Refused, Nothing, Complete, Silent}
+use Rattle.std.specs.Prelude.{Result, Ok, Err, Option, Some, None}
+use Rattle.layouts.specs.declared.refusal.Refusal.{Refusal}
+use Rattle.subframes.specs.declared.subframe.Pair.{Pair}
+use Rattle.subframes.specs.declared.subframe.Pair.TheVariants.{Complete, Silent}
 use Rattle.subframes.proofs.SubframeUnique.{back_subframe}
 use Rattle.subframes.proofs.SubframeHistory.{fed_coded}
 use Rattle.dsms.specs.Dsm.{State as Dsms, begun, stored, counted as counted_blocks, finished, taken, feed as feed_block}
@@ -45,11 +47,11 @@ one_of_each s pages h =
 abbrev Paired : Answer → Type 0
 Paired a = length (subframes_in a) + length (silent_in a) ≡ comes_out a
 
-paired : (x : SubframeAnswer) → Paired (meaning_subframe x)
-paired (Refused n) = refl
-paired Nothing = refl
-paired (Complete w t) = refl
-paired (Silent w t) = refl
+paired : (x : Result (Option Pair) Refusal) → Paired (meaning_subframe x)
+paired (Err e) = refl
+paired (Ok None) = refl
+paired (Ok (Some (Complete w t))) = refl
+paired (Ok (Some (Silent w t))) = refl
 
 pair_in : (s : Subframes) (p : Page) → Paired (feed_page s p).answer
 pair_in s p = subst Paired (fed_coded s p) (paired (back_subframe (feed_page s p).answer))
@@ -218,12 +220,12 @@ module _ (s : State) (n budget : ℕ) (g : Good s n) (l : n ≤ most) where
   pub admitted_call : budget ≤ 15 → 0 ≡ refusal (replay_checks s budget)
   admitted_call b =
       call_admitted s budget g.dsms.d208
-      (sound_admitted s.subframes g.collector) refl g.dsms.id_low (few_totals s n g.sound l) refl in_place refl b
+      (sound_admitted s.subframes g.collector) refl g.dsms.id_low (few_totals s n g.sound l) in_place refl b
 
   pub high_budget_7 : 15 < budget → 7 ≡ refusal (replay_checks s budget)
   high_budget_7 b =
       other_budget s budget g.dsms.d208
-      (sound_admitted s.subframes g.collector) refl g.dsms.id_low (few_totals s n g.sound l) refl in_place refl b
+      (sound_admitted s.subframes g.collector) refl g.dsms.id_low (few_totals s n g.sound l) in_place refl b
 
 -- A call: the pages that it consumed, which are none where it is refused.
 abbrev pub consumed_pages : State → Call → List (List ℕ)
@@ -279,7 +281,7 @@ calls_are (c ∷ cs) r =
     calls_are cs (called r c) ∙ ap (λ (x : Run). onward x rest) (called_is r c) ∙ sym (onward_append (consumed_pages r.state c) rest r)
 
 -- The pages of bytes that are put together.
-pages_join : (k m : ℕ) (a b : List ℕ) → length a ≡ 30 * k → pages_of (k + m) (a ++ b) ≡ pages_of k a ++ pages_of m b
+pub pages_join : (k m : ℕ) (a b : List ℕ) → length a ≡ 30 * k → pages_of (k + m) (a ++ b) ≡ pages_of k a ++ pages_of m b
 unfolding pages_of
 pages_join zero m [] b e = ap (λ (j : ℕ). pages_of j b) (zero-add m)
 pages_join zero m (x ∷ a) b e = let e : suc (length a) ≡ 0 = e in absurd (omega arith)
@@ -393,11 +395,12 @@ pub zeros_small : small (replicate 36 0) ≡ true
 unfolding small
 zeros_small = refl
 
-pub new_is_ready : NewIsReady
-new_is_ready satellite week time n hkroot mack memory e lh lm ld l =
+-- a new record in range
+pub good_first_page : (satellite week time : ℕ) (hkroot mack memory : List ℕ) → refusal (svn_gst_checks satellite week time) ≡ 0
+    → length hkroot ≡ 540 → length mack ≡ 2160 → length memory ≡ 208 → Good (new satellite week time hkroot mack memory) 0
+good_first_page satellite week time hkroot mack memory e lh lm ld =
     let f = none_fails (svn_gst_checks satellite week time) tt e in
-    good_ready (new satellite week time hkroot mack memory) 0 n
-    (record {
+    record {
       sound =
           record {
             some = ltb-false satellite 1 f.0;
@@ -414,8 +417,11 @@ new_is_ready satellite week time n hkroot mack memory e lh lm ld l =
           };
       collector = record { h540 = lh; m2160 = lm; week_fits = omega arith; subframe_fits = omega arith; all_small = zeros_small };
       dsms = record { d208 = ld; id_low = omega arith };
-    })
-    (omega arith)
+    }
+
+pub new_is_ready : NewIsReady
+new_is_ready satellite week time n hkroot mack memory e lh lm ld l =
+    good_ready (new satellite week time hkroot mack memory) 0 n (good_first_page satellite week time hkroot mack memory e lh lm ld) (omega arith)
 
 -- what is asked of a page that is admitted is not refused
 pub totals_say_used : TotalsSayUsed

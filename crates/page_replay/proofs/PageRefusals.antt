@@ -4,10 +4,15 @@ use Prim.Native.Nat.{ℕ, zero, suc, ◌/◌, ◌^◌, ◌≤◌, ◌<◌, min}
 use native.Mathlib.Omega.{arith}
 use mathlib.Core.Path.{◌≡◌, refl, sym, ap, ◌∙◌}
 use mathlib.Core.List.{List, [], ◌∷◌, ◌++◌}
-use mathlib.Core.Bool.{Bool, true, false, not}
+use mathlib.Core.Bool.{Bool, true, false, not, ◌&&◌}
 use lib.ListN.{length, drop}
 use lib.Dec.{leb, ltb}
-use borrow.Author.Tests.{leb-true, le-leb, lt-leb, le-ltb, lt-ltb, eq-eqb, ne_eqb, eqb-true, ltb-false, not-false}
+use borrow.Author.Tests.{leb-true, le-leb, le-ltb, lt-ltb, eq-eqb, ne_eqb, eqb-true, ltb-false, not-false}
+use Rattle.std.specs.List.{list_all}
+use Rattle.std.specs.Prelude.{Result, Ok, Err, is_err}
+use Rattle.layouts.specs.Refusals.{refused_by}
+use Rattle.layouts.specs.declared.refusal.Refusal.{Refusal}
+use Rattle.layouts.proofs.Refused.{number_some}
 use Rattle.layouts.specs.Answer.{refused, gives, Check, ◌when◌, refusal}
 use Rattle.layouts.specs.Gst.{svn_gst_checks}
 use Rattle.runs.proofs.Basics.{and_true}
@@ -20,77 +25,46 @@ use Rattle.page_replay.specs.inner.Steps.{InRange, Room}
 use Rattle.page_replay.specs.declared.replay.PageReplay.{PageReplay}
 
 -- The totals.
-module _ (t : Totals) where
-  pub many_pages : most < t.pages → false ≡ are_few t
-  unfolding are_few
-  many_pages h = rw (lt-leb t.pages most h)
+seven : (a b c d e f g : Bool) → list_all (λ x. x) (a ∷ b ∷ c ∷ d ∷ e ∷ f ∷ g ∷ []) ≡ a && b && c && d && e && f && g
+seven true true true true true true true = refl
+seven true true true true true true false = refl
+seven true true true true true false g = refl
+seven true true true true false f g = refl
+seven true true true false e f g = refl
+seven true true false d e f g = refl
+seven true false c d e f g = refl
+seven false b c d e f g = refl
 
-  module _ (a : t.pages ≤ most) where
-    pub many_skipped : most < t.skipped → false ≡ are_few t
-    unfolding are_few
-    many_skipped h = rw (le-leb t.pages most a, lt-leb t.skipped most h)
+abbrev pub totals_of : Totals → List ℕ
+totals_of t = t.pages ∷ t.skipped ∷ t.used ∷ t.unused ∷ t.subframes ∷ t.dsms ∷ t.silent ∷ []
 
-    module _ (b : t.skipped ≤ most) where
-      pub many_used : most < t.used → false ≡ are_few t
-      unfolding are_few
-      many_used h = rw (le-leb t.pages most a, le-leb t.skipped most b, lt-leb t.used most h)
+pub all_are_few : (t : Totals) → list_all (λ n. leb n most) (totals_of t) ≡ are_few t
+unfolding are_few
+all_are_few t =
+    seven (leb t.pages most) (leb t.skipped most) (leb t.used most) (leb t.unused most) (leb t.subframes most) (leb t.dsms most) (leb t.silent most)
 
-      module _ (c : t.used ≤ most) where
-        pub many_unused : most < t.unused → false ≡ are_few t
-        unfolding are_few
-        many_unused h = rw (le-leb t.pages most a, le-leb t.skipped most b, le-leb t.used most c, lt-leb t.unused most h)
+pub all_few : (t : Totals) → t.pages ≤ most → t.skipped ≤ most → t.used ≤ most → t.unused ≤ most → t.subframes ≤ most → t.dsms ≤ most → t.silent ≤ most
+    → true ≡ are_few t
+unfolding are_few
+all_few t a b c d e f h =
+    rw (
+      le-leb t.pages most a,
+      le-leb t.skipped most b,
+      le-leb t.used most c,
+      le-leb t.unused most d,
+      le-leb t.subframes most e,
+      le-leb t.dsms most f,
+      le-leb t.silent most h,
+    )
 
-        module _ (d : t.unused ≤ most) where
-          pub many_subframes : most < t.subframes → false ≡ are_few t
-          unfolding are_few
-          many_subframes h =
-              rw (
-                le-leb t.pages most a,
-                le-leb t.skipped most b,
-                le-leb t.used most c,
-                le-leb t.unused most d,
-                lt-leb t.subframes most h,
-              )
+-- whether a check refused
+pub refused_some : {A : Type 0} (r : Result A Refusal) → is_err r ≡ true → refused_by r ≡ 0 → ⊥
+refused_some (Err e) h = number_some e
+refused_some (Ok x) h = let z : ◌≡◌ {A = ℕ} 0 1 = cc in absurd (omega arith)
 
-          module _ (e : t.subframes ≤ most) where
-            pub many_dsms : most < t.dsms → false ≡ are_few t
-            unfolding are_few
-            many_dsms h =
-                rw (
-                  le-leb t.pages most a,
-                  le-leb t.skipped most b,
-                  le-leb t.used most c,
-                  le-leb t.unused most d,
-                  le-leb t.subframes most e,
-                  lt-leb t.dsms most h,
-                )
-
-            module _ (f : t.dsms ≤ most) where
-              pub many_silent : most < t.silent → false ≡ are_few t
-              unfolding are_few
-              many_silent h =
-                  rw (
-                    le-leb t.pages most a,
-                    le-leb t.skipped most b,
-                    le-leb t.used most c,
-                    le-leb t.unused most d,
-                    le-leb t.subframes most e,
-                    le-leb t.dsms most f,
-                    lt-leb t.silent most h,
-                  )
-
-              pub all_few : t.silent ≤ most → true ≡ are_few t
-              unfolding are_few
-              all_few h =
-                  rw (
-                    le-leb t.pages most a,
-                    le-leb t.skipped most b,
-                    le-leb t.used most c,
-                    le-leb t.unused most d,
-                    le-leb t.subframes most e,
-                    le-leb t.dsms most f,
-                    le-leb t.silent most h,
-                  )
+pub refused_none : {A : Type 0} (r : Result A Refusal) → is_err r ≡ false → refused_by r ≡ 0
+refused_none (Ok x) h = refl
+refused_none (Err e) h = let z : ◌≡◌ {A = ℕ} 0 1 = cc in absurd (omega arith)
 
 -- The refusals of a call: the subframe collector's bytes and record, then what is left.
 abbrev place_rows : State → ℕ → List Check
@@ -138,15 +112,15 @@ module _ (s : State) (budget : ℕ) where
       unfolding refusal
       other_dsm_id h = behind (rw (lt-ltb 15 s.dsms.id h))
 
-      module _ (i : s.dsms.id ≤ 15) {b : Bool} (f : b ≡ are_few s.totals) where
-        pub other_totals : not b ≡ true → 12 ≡ refusal (replay_checks s budget)
+      module _ (i : s.dsms.id ≤ 15) where
+        pub other_totals : false ≡ are_few s.totals → 12 ≡ refusal (replay_checks s budget)
         unfolding refusal
-        other_totals h = behind (rw (le-ltb 15 s.dsms.id i, ← f, h))
+        other_totals h = behind (rw (le-ltb 15 s.dsms.id i, ← h))
 
-        module _ (h : not b ≡ false) {p : ℕ} (g : p ≡ refusal (svn_gst_checks s.satellite s.next.week s.next.time)) where
+        module _ (h : true ≡ are_few s.totals) {p : ℕ} (g : p ≡ refusal (svn_gst_checks s.satellite s.next.week s.next.time)) where
           beyond : {r : ℕ} → r ≡ refusal (place_rows s budget) → r ≡ refusal (replay_checks s budget)
           unfolding refusal
-          beyond y = behind (rw (le-ltb 15 s.dsms.id i, ← f, h) y)
+          beyond y = behind (rw (le-ltb 15 s.dsms.id i, ← h) y)
 
           pub other_place : (p ≡ 0 → ⊥) → 12 ≡ refusal (replay_checks s budget)
           other_place ne =

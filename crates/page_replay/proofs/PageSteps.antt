@@ -8,40 +8,29 @@ use mathlib.Core.Bool.{Bool, true, false, cond, not}
 use lib.ListN.{length}
 use lib.Dec.{eqb}
 use borrow.Author.Tests.{le-ltb, lt-ltb, eq-eqb, ne_eqb, not-true, not-false}
-use Rattle.layouts.specs.Answer.{refused, nothing, gives, refusal, answered, Copied}
+use Rattle.layouts.specs.Answer.{Answer, refused, nothing, gives, refusal, answered, Copied}
 use Rattle.layouts.specs.Gst.{svn_gst_checks}
-use Rattle.layouts.specs.InavPage.{is_counted, osnma, page_checks, PageKindRead, OsnmaRead}
-use Rattle.layouts.specs.Meaning.{meaning_page_kind}
-use Rattle.layouts.specs.declared.inav_page.OsnmaField.{OsnmaField}
-use Rattle.layouts.specs.declared.inav_page.PageKind.{PageKind}
-use Rattle.layouts.specs.declared.inav_page.PageKind.TheVariants.{Counts, Skipped, Refused as KindRefused}
-use Rattle.layouts.specs.declared.dsm_header.DsmType.{DsmType}
-use Rattle.layouts.specs.declared.dsm_header.DsmType.TheVariants.{Kroot, Pkr}
+use Rattle.layouts.specs.InavPage.{is_counted, osnma, page_checks, page_kind, OsnmaRead}
+use Rattle.std.specs.Prelude.{Result, Ok, Err, Option, Some, None, is_some}
+use Rattle.std.specs.Option.{option_or}
+use Rattle.std.specs.Int.{from_bool}
+use Rattle.layouts.specs.Refusals.{refusal_number}
+use Rattle.layouts.specs.declared.refusal.Refusal.{Refusal}
+use Rattle.layouts.proofs.Refused.{number_some}
 use Rattle.layouts.proofs.Timed.{satellite_fits, fits_all}
 use Rattle.page_replay.specs.Replay.{Time, later, State, new, Begun, begun, Dsm, Run, subframes_in, silent_in, dsms_in, is_taken, one}
-use Rattle.page_replay.specs.Replay.{hkroot_of, fed_hkroot, passed_on, skipped, counted, fed_page, fed, page_step, and_then}
+use Rattle.page_replay.specs.Replay.{passed_on, skipped, counted, fed_page, fed, page_step, and_then}
 use Rattle.subframes.specs.Subframe.{ask_checks, used_answer, Page, Fed as SubframesFed, feed as feed_page}
 use Rattle.dsms.specs.Dsm.{Fed as DsmsFed}
-use Rattle.subframes.specs.SubframePromises.{NewSubframe, IsUsed, HkrootMessageRead, meaning_subframe, meaning_word, call, state as subframe_state}
-use Rattle.dsms.specs.DsmPromises.{NewDsm, meaning_dsm, state as dsm_state}
+use Rattle.subframes.specs.SubframePromises.{IsUsed, meaning_word, call}
+use Rattle.subframes.specs.SubframePromises.{state as subframe_state}
 use Rattle.page_replay.specs.ReplayPromises.{state, meaning_subframes, meaning_dsms}
 use Rattle.page_replay.specs.inner.Steps.{AtMostOne}
 use Rattle.subframes.proofs.SubframeUsed.{used_alone}
 use Rattle.subframes.specs.declared.subframe.CollectSubframe.{CollectSubframe}
-use Rattle.subframes.specs.declared.subframe.WordAnswer.{WordAnswer}
-use Rattle.subframes.specs.declared.subframe.WordAnswer.TheVariants.{Used}
-use Rattle.subframes.specs.declared.subframe.HkrootMessage.{HkrootMessage}
-use Rattle.subframes.specs.declared.subframe.SubframeAnswer.{SubframeAnswer}
-use Rattle.subframes.specs.declared.subframe.SubframeAnswer.TheVariants.{Refused as SubframeRefused, Nothing as NoSubframe, Complete as SubframeIs}
-use Rattle.subframes.specs.declared.subframe.SubframeAnswer.TheVariants.{Silent as SilentIs}
-use Rattle.dsms.specs.declared.dsm.CollectDsm.{CollectDsm}
 use Rattle.page_replay.specs.declared.replay.PageReplay.{PageReplay}
-use Rattle.dsms.specs.declared.dsm.DsmAnswer.{DsmAnswer}
-use Rattle.dsms.specs.declared.dsm.DsmAnswer.TheVariants.{Complete}
 use Rattle.page_replay.specs.declared.replay.SubframeDone.{SubframeDone}
-use Rattle.page_replay.specs.declared.replay.SubframeDone.TheVariants.{None, Subframe}
 use Rattle.page_replay.specs.declared.replay.DsmDone.{DsmDone}
-use Rattle.page_replay.specs.declared.replay.DsmDone.TheVariants.{None as NoDsm, Dsm as DsmIs}
 
 -- A page of 30 bytes is not refused: whether it counts, and its OSNMA field.
 module _ (page : List ℕ) (l : length page ≡ 30) where
@@ -49,40 +38,43 @@ module _ (page : List ℕ) (l : length page ≡ 30) where
   unfolding refusal
   page_fits = rw (eq-eqb (length page) 30 l)
 
-  module _ (x : PageKind) (e : PageKindRead page x) where
-    kind_is : meaning_page_kind x ≡ cond (is_counted page) (gives []) nothing
-    unfolding answered
-    kind_is = rw page_fits at e
+  kind_is : {a : Answer} → a ≡ page_kind page → a ≡ cond (is_counted page) (gives []) nothing
+  unfolding answered
+  kind_is e = rw page_fits at e
 
-    pub kind_counts : x ≡ Counts → true ≡ is_counted page
-    kind_counts h = go (is_counted page) (rw h at kind_is)
-      where
-        go : (b : Bool) → gives [] ≡ cond b (gives []) nothing → true ≡ b
-        go true f = refl
-        go false f = let z : ◌≡◌ {A = ℕ} 0 1 = cc in absurd (omega arith)
+  pub kind_counts : gives [] ≡ page_kind page → true ≡ is_counted page
+  kind_counts e = go (is_counted page) (kind_is e)
+    where
+      go : (b : Bool) → gives [] ≡ cond b (gives []) nothing → true ≡ b
+      go true f = refl
+      go false f = let z : ◌≡◌ {A = ℕ} 0 1 = cc in absurd (omega arith)
 
-    pub kind_skipped : x ≡ Skipped → false ≡ is_counted page
-    kind_skipped h = go (is_counted page) (rw h at kind_is)
-      where
-        go : (b : Bool) → nothing ≡ cond b (gives []) nothing → false ≡ b
-        go true f = let z : ◌≡◌ {A = ℕ} 0 1 = cc in absurd (omega arith)
-        go false f = refl
+  pub kind_skipped : nothing ≡ page_kind page → false ≡ is_counted page
+  kind_skipped e = go (is_counted page) (kind_is e)
+    where
+      go : (b : Bool) → nothing ≡ cond b (gives []) nothing → false ≡ b
+      go true f = let z : ◌≡◌ {A = ℕ} 0 1 = cc in absurd (omega arith)
+      go false f = refl
 
-    pub kind_refused : {n : ℕ} → x ≡ KindRefused n → false ≡ is_counted page
-    kind_refused {n} h = go (is_counted page) (rw h at kind_is)
-      where
-        go : (b : Bool) → refused n ≡ cond b (gives []) nothing → false ≡ b
-        go true f = let z : ◌≡◌ {A = ℕ} 0 1 = cc in absurd (omega arith)
-        go false f = refl
+  pub kind_refused : (q : Refusal) → refused (refusal_number q) ≡ page_kind page → false ≡ is_counted page
+  kind_refused q e = go (is_counted page) (kind_is e)
+    where
+      go : (b : Bool) → refused (refusal_number q) ≡ cond b (gives []) nothing → false ≡ b
+      go true f = let z : ◌≡◌ {A = ℕ} 0 1 = cc in absurd (omega arith)
+      go false f = refl
 
-  pub osnma_read : (x : OsnmaField) → OsnmaRead page x → x.bytes ≡ osnma page
-  osnma_read x e = ap (λ (y : Copied). y.bytes) e ∙ rw page_fits
+  pub osnma_read : (x : Result (List ℕ) Refusal) → OsnmaRead page x → x ≡ Ok (osnma page)
+  unfolding answered
+  osnma_read (Ok b) e = ap (λ (y : Copied). Ok y.bytes) e ∙ rw page_fits
+  osnma_read (Err q) e =
+      let f : refused (refusal_number q) ≡ gives [] = ap (λ (y : Copied). y.answer) e ∙ ap (λ (k : ℕ). answered k (gives [])) page_fits in
+      let z : ◌≡◌ {A = ℕ} 0 1 = cc in absurd (omega arith)
+
+pub unwrapped : {x y : List ℕ} → ◌≡◌ {A = Result (List ℕ) Refusal} (Ok x) (Ok y) → x ≡ y
+unwrapped e = cc
 
 -- Whether it is used, asked of the record alone.
-pub taken_is : {x : WordAnswer} → x ≡ Used → true ≡ is_taken (meaning_word x)
-taken_is e = rw e
-
-pub used_asked : (c : CollectSubframe) (h m bytes : List ℕ) (n w t : ℕ) (x : WordAnswer) {b : Bool}
+pub used_asked : (c : CollectSubframe) (h m bytes : List ℕ) (n w t : ℕ) (x : Result Bool Refusal) {b : Bool}
     → IsUsed c n w t x → b ≡ is_taken (meaning_word x) → b ≡ is_taken (used_answer (subframe_state c h m) (call bytes n w t))
 unfolding used_answer
 used_asked c h m bytes n w t x e f = f ∙ ap is_taken e ∙ ap asked (used_alone c h m bytes n w t)
@@ -115,112 +107,49 @@ module _ (w t : ℕ) where
         let same : t + 2 - 604800 ≡ t - 604798 = omega arith in
         rw (le-ltb (t + 2) 604800 (omega arith), ne_eqb w 4095 ne, same)
 
--- What an answer completes.
-pub subframe_is : {x : SubframeAnswer} {w t : ℕ} → x ≡ SubframeIs w t → meaning_subframes (Subframe w t) ≡ subframes_in (meaning_subframe x)
-subframe_is e = rw e
+-- Of what is not there twice, that which is there.
+pub one_subframe : (x y : Option SubframeDone) → length (meaning_subframes x ++ meaning_subframes y) ≤ 1
+    → meaning_subframes (option_or x y) ≡ meaning_subframes x ++ meaning_subframes y
+one_subframe None y l = refl
+one_subframe (Some d) None l = refl
+one_subframe (Some d) (Some e) l = let l : 2 ≤ 1 = l in absurd (omega arith)
 
-pub dsm_is : {x : DsmAnswer} (i : ℕ) (k : DsmType) (n : ℕ) → x ≡ Complete i k n → meaning_dsms (DsmIs i n) ≡ dsms_in (meaning_dsm x)
-dsm_is i Kroot n e = rw e
-dsm_is i Pkr n e = rw e
-
-pub first_subframe :
-    (x y : SubframeDone) {w t : ℕ} → x ≡ Subframe w t → length (meaning_subframes x ++ meaning_subframes y) ≤ 1
-    → meaning_subframes (Subframe w t) ≡ meaning_subframes x ++ meaning_subframes y
-first_subframe x None e l = rw e
-first_subframe x (Subframe v u) e l = let l : 2 ≤ 1 = rw e at l in absurd (omega arith)
-
-pub first_dsm :
-    (x y : DsmDone) {i n : ℕ} → x ≡ DsmIs i n → length (meaning_dsms x ++ meaning_dsms y) ≤ 1
-    → meaning_dsms (DsmIs i n) ≡ meaning_dsms x ++ meaning_dsms y
-first_dsm x NoDsm e l = rw e
-first_dsm x (DsmIs j m) e l = let l : 2 ≤ 1 = rw e at l in absurd (omega arith)
+pub one_dsm : (x y : Option DsmDone) → length (meaning_dsms x ++ meaning_dsms y) ≤ 1
+    → meaning_dsms (option_or x y) ≡ meaning_dsms x ++ meaning_dsms y
+one_dsm None y l = refl
+one_dsm (Some d) None l = refl
+one_dsm (Some d) (Some e) l = let l : 2 ≤ 1 = l in absurd (omega arith)
 
 pub one_few : (b : Bool) → one b ≤ 1
 one_few true = omega arith
 one_few false = omega arith
 
-pub subframes_few : (x : SubframeDone) → length (meaning_subframes x) ≤ 1
-subframes_few None = omega arith
-subframes_few (Subframe w t) = omega arith
+-- numbers of what is there, and of a test
+pub one_number : (b : Bool) → from_bool b ≡ one b
+one_number true = refl
+one_number false = refl
 
-pub dsms_few : (x : DsmDone) → length (meaning_dsms x) ≤ 1
-dsms_few NoDsm = omega arith
-dsms_few (DsmIs i n) = omega arith
+pub subframe_number : (x : Option SubframeDone) → from_bool (is_some x) ≡ length (meaning_subframes x)
+subframe_number None = refl
+subframe_number (Some d) = refl
+
+pub dsm_number : (x : Option DsmDone) → from_bool (is_some x) ≡ length (meaning_dsms x)
+dsm_number None = refl
+dsm_number (Some d) = refl
 
 -- A new record.
-pub fresh_is : (s w t : ℕ) (a : CollectSubframe) (b : CollectDsm) → NewSubframe a → NewDsm b
-    → state
-    (record {
-      satellite = s;
-      week = w;
-      time = t;
-      subframes = a;
-      dsms = b;
-      pages = 0;
-      skipped = 0;
-      used = 0;
-      unused = 0;
-      subframes_done = 0;
-      dsms_done = 0;
-      silent = 0;
-    })
-    [] [] []
-    ≡ new s w t [] [] []
-fresh_is s w t a b e f = cc
-
-module _ (s w t : ℕ) {q : ℕ} (e : q ≡ refusal (svn_gst_checks s w t)) {r : PageReplay} where
+module _ (s w t : ℕ) {r : PageReplay} where
   pub begun_refused :
-      (q ≡ 0 → ⊥) → state r [] [] [] ≡ new 0 0 0 [] [] []
-      → ◌≡◌ {A = Begun} (record { state = state r [] [] []; answer = refused q }) (begun s w t [] [] [])
+      (q : Refusal) → refusal_number q ≡ refusal (svn_gst_checks s w t) → state r [] [] [] ≡ new 0 0 0 [] [] []
+      → ◌≡◌ {A = Begun} (record { state = state r [] [] []; answer = refused (refusal_number q) }) (begun s w t [] [] [])
   unfolding begun
-  begun_refused ne f = rw (← e, ne_eqb q 0 ne, f)
+  begun_refused q e f = rw (← e, ne_eqb (refusal_number q) 0 (number_some q), f)
 
   pub begun_ready :
-      q ≡ 0 → state r [] [] [] ≡ new s w t [] [] [] → ◌≡◌ {A = Begun} (record { state = state r [] [] []; answer = gives [] }) (begun s w t [] [] [])
+      0 ≡ refusal (svn_gst_checks s w t) → state r [] [] [] ≡ new s w t [] [] []
+      → ◌≡◌ {A = Begun} (record { state = state r [] [] []; answer = gives [] }) (begun s w t [] [] [])
   unfolding begun
-  begun_ready z f = rw (← e, z, f)
-
--- with any lent bytes
-pub with_memory : (s w t : ℕ) (r : PageReplay) (h m d : List ℕ) → state r [] [] [] ≡ new s w t [] [] [] → state r h m d ≡ new s w t h m d
-with_memory s w t r h m d e = ap lent e
-  where
-    lent : State → State
-    lent x =
-        record {
-          satellite = x.satellite;
-          next = x.next;
-          subframes = record { week = x.subframes.week; subframe = x.subframes.subframe; counts = x.subframes.counts; hkroot = h; mack = m };
-          dsms = record { id = x.dsms.id; came = x.dsms.came; held = x.dsms.held; done = x.dsms.done; memory = d };
-          totals = x.totals;
-        }
-
--- A complete HKROOT message feeds the DSM collector.
-module _ {x : SubframeAnswer} (c : CollectSubframe) (h k : List ℕ) (n : ℕ) (d : CollectDsm) (m : List ℕ) where
-  pub passed_refused :
-      {q : ℕ} → x ≡ SubframeRefused q
-      → ◌≡◌ {A = DsmsFed} (record { state = dsm_state d m; answer = nothing })
-      (passed_on (subframes_in (meaning_subframe x)) (subframe_state c h k) n (dsm_state d m))
-  passed_refused e = rw e
-
-  pub passed_nothing :
-      x ≡ NoSubframe
-      → ◌≡◌ {A = DsmsFed} (record { state = dsm_state d m; answer = nothing })
-      (passed_on (subframes_in (meaning_subframe x)) (subframe_state c h k) n (dsm_state d m))
-  passed_nothing e = rw e
-
-  pub passed_silent :
-      {w t : ℕ} → x ≡ SilentIs w t
-      → ◌≡◌ {A = DsmsFed} (record { state = dsm_state d m; answer = nothing })
-      (passed_on (subframes_in (meaning_subframe x)) (subframe_state c h k) n (dsm_state d m))
-  passed_silent e = rw e
-
-  pub passed_hkroot : {w t : ℕ} {f : DsmsFed} → x ≡ SubframeIs w t → f ≡ fed_hkroot (dsm_state d m) (hkroot_of (subframe_state c h k) n)
-      → f ≡ passed_on (subframes_in (meaning_subframe x)) (subframe_state c h k) n (dsm_state d m)
-  passed_hkroot e g = rw e g
-
-pub hkroot_fed : (c : CollectSubframe) (h k : List ℕ) (n : ℕ) (d : CollectDsm) (m : List ℕ) (y : HkrootMessage) {f : DsmsFed} → HkrootMessageRead c h k n y
-    → f ≡ fed_hkroot (dsm_state d m) y.bytes → f ≡ fed_hkroot (dsm_state d m) (hkroot_of (subframe_state c h k) n)
-hkroot_fed c h k n d m y p g = g ∙ ap (λ (z : Copied). fed_hkroot (dsm_state d m) z.bytes) p
+  begun_ready e f = rw (← e, f)
 
 -- A page step.
 module _ (s : State) (page : List ℕ) {b : Bool} (e : b ≡ is_counted page) {r : Run} where
@@ -233,11 +162,11 @@ module _ (s : State) (page : List ℕ) {b : Bool} (e : b ≡ is_counted page) {r
   step_counted h g = rw (← e, not-false b h) g
 
 -- A page that is skipped, and one that counts.
-pub skipped_is : (s : State) {t : Time} → t ≡ later s.next
+pub skipped_is : (s : State) {n : ℕ} {t : Time} → n ≡ s.satellite → t ≡ later s.next
     → ◌≡◌ {A = Run} (record {
       state =
           record {
-            satellite = s.satellite;
+            satellite = n;
             next = t;
             subframes = s.subframes;
             dsms = s.dsms;
@@ -256,15 +185,15 @@ pub skipped_is : (s : State) {t : Time} → t ≡ later s.next
       dsms = [];
     }) (skipped s)
 unfolding skipped
-skipped_is s e = rw e
+skipped_is s i e = rw (i, e)
 
-pub counted_is : (s : State) (u : Bool) (f : SubframesFed) (d : DsmsFed) {t : Time} {xs : List Time} {ys : List Dsm} {a b p q z : ℕ}
-    → t ≡ later s.next → xs ≡ subframes_in f.answer → ys ≡ dsms_in d.answer → a ≡ one u → b ≡ one (not u) → p ≡ length xs → q ≡ length ys
+pub counted_is : (s : State) (u : Bool) (f : SubframesFed) (d : DsmsFed) {n : ℕ} {t : Time} {xs : List Time} {ys : List Dsm} {a b p q z : ℕ}
+    → n ≡ s.satellite → t ≡ later s.next → xs ≡ subframes_in f.answer → ys ≡ dsms_in d.answer → a ≡ one u → b ≡ one (not u) → p ≡ length xs → q ≡ length ys
     → z ≡ length (silent_in f.answer)
     → ◌≡◌ {A = Run} (record {
       state =
           record {
-            satellite = s.satellite;
+            satellite = n;
             next = t;
             subframes = f.state;
             dsms = d.state;
@@ -283,7 +212,7 @@ pub counted_is : (s : State) (u : Bool) (f : SubframesFed) (d : DsmsFed) {t : Ti
       dsms = ys;
     }) (counted s u f d)
 unfolding counted
-counted_is s u f d et ex ey ea eb ep eq ez = rw (et, ep, eq, ex, ey, ea, eb, ez)
+counted_is s u f d en et ex ey ea eb ep eq ez = rw (en, et, ep, eq, ex, ey, ea, eb, ez)
 
 module _ (s : State) (page : List ℕ) where
   abbrev read : List ℕ → Page

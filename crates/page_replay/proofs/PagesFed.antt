@@ -108,7 +108,7 @@ step_feeds s page = go (is_counted page)
     go true = fed_feeds s page
     go false = skipped_feeds s
 
-step_place : (s : State) (page : List ℕ) → ((page_step s page).state.satellite ≡ s.satellite) × ((page_step s page).state.next ≡ later s.next)
+pub step_place : (s : State) (page : List ℕ) → ((page_step s page).state.satellite ≡ s.satellite) × ((page_step s page).state.next ≡ later s.next)
 unfolding page_step fed counted skipped
 step_place s page = go (is_counted page)
   where
@@ -155,7 +155,7 @@ module _ (s : State) (ps qs : List Page) (r x : Run) (f : Feeds s ps r) (g : Fee
             ∙ sym (dsms_append s.dsms bs es) ∙ ap (dsms_from s.dsms) (sym (blocks_append s.subframes ps qs));
       }
 
-one_more : (s : State) (page : List ℕ) (pages : List (List ℕ))
+pub one_more : (s : State) (page : List ℕ) (pages : List (List ℕ))
     → replayed s (page ∷ pages) ≡ followed_by (page_step s page) (replayed (page_step s page).state pages)
 unfolding replayed and_then
 one_more s page pages = split_anywhere s (page ∷ []) pages

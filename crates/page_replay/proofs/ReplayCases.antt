@@ -7,7 +7,7 @@ use mathlib.Core.List.{List, [], ◌∷◌, ◌++◌}
 use mathlib.Core.Bool.{Bool, true, false, cond}
 use lib.ListN.{length, replicate}
 use lib.Dec.{eqb}
-use borrow.Author.Tests.{eqb-true}
+use borrow.Author.Tests.{eqb-true, eqb-false}
 use Rattle.layouts.specs.Answer.{refused, gives, refusal, copied}
 use Rattle.layouts.specs.Bits.{bit, field, bytes_from}
 use Rattle.layouts.specs.Gst.{svn_gst_checks}
@@ -20,10 +20,12 @@ use Rattle.dsms.specs.Dsm.{begun as begun_blocks, stored, counted as counted_blo
 use Rattle.page_replay.specs.Replay.{Time, Dsm, State, new, Begun, begun, Run, skipped, counted, fed, page_step, and_then, replayed, pages_of, whole_pages}
 use Rattle.page_replay.specs.Replay.{consumed, are_few, replay_checks, Outcome, replay, fed_hkroot, later}
 use Rattle.page_replay.specs.Pieces.{good_page, last_page}
-use Rattle.page_replay.specs.ReplayPromises.{state, outcome, meaning_begun, meaning_subframes, meaning_dsms, BeginReplay, ReplayPages}
+use Rattle.page_replay.specs.ReplayPromises.{state, outcome, meaning_subframes, meaning_dsms, BeginReplay, ReplayPages}
 use Rattle.page_replay.specs.ReplayHistory.{History, AnyCalls, zeros, good_pages, SmallestCase}
 use Rattle.page_replay.specs.declared.replay.PageReplay.{PageReplay}
-use Rattle.page_replay.specs.declared.replay.Begun.TheVariants.{Refused as NewRefused, Ready}
+use Rattle.std.specs.Prelude.{Ok, Err}
+use Rattle.layouts.specs.Meaning.{meaning_done}
+use Rattle.layouts.proofs.Back.{refusal_at, number_back}
 use Rattle.page_replay.specs.declared.replay.NewReplay.{NewReplay}
 use Rattle.page_replay.specs.declared.replay.Replayed.{Replayed}
 use Rattle.page_replay.proofs.PageFold.{at_most_one}
@@ -34,7 +36,7 @@ use Rattle.page_replay.proofs.ReplayUnique.{back_answer, back_subframes, back_ds
 -- Every answer of the definition is one of the code's.
 any_new : (satellite week time : ℕ) → (r : NewReplay) × BeginReplay satellite week time r
 unfolding begun
-any_new satellite week time = go (eqb q 0)
+any_new satellite week time = go (eqb q 0) refl
   where
     q : ℕ
     q = refusal (svn_gst_checks satellite week time)
@@ -43,10 +45,14 @@ any_new satellite week time = go (eqb q 0)
     either b =
         cond b (record { state = new satellite week time [] [] []; answer = gives [] }) (record { state = new 0 0 0 [] [] []; answer = refused q })
 
-    go : (b : Bool)
-        → (r : NewReplay) × (◌≡◌ {A = Begun} (record { state = state r.replay [] [] []; answer = meaning_begun r.answer }) (either b))
-    go true = (record { replay = back_state (new satellite week time [] [] []); answer = Ready }, refl)
-    go false = (record { replay = back_state (new 0 0 0 [] [] []); answer = NewRefused q }, refl)
+    go : (b : Bool) → eqb q 0 ≡ b
+        → (r : NewReplay) × (◌≡◌ {A = Begun} (record { state = state r.replay [] [] []; answer = meaning_done r.answer }) (either b))
+    go true e = (record { replay = back_state (new satellite week time [] [] []); answer = Ok tt }, refl)
+    go false e = (
+      record { replay = back_state (new 0 0 0 [] [] []); answer = Err (refusal_at q) },
+      ap (λ (n : ℕ). record { state = new 0 0 0 [] [] []; answer = refused n })
+          (number_back (svn_gst_checks satellite week time) tt (eqb-false q 0 e)),
+    )
 
 one_subframe : (l : List Time) → length l ≤ 1 → meaning_subframes (back_subframes l) ≡ l
 one_subframe [] h = refl
@@ -88,7 +94,9 @@ any_outcome s bytes budget = go (eqb q 0) refl
         (one_subframe x.subframes few.subframe_one)
         ∙ ap (λ (ds : List Dsm). record { state = x.state; answer = gives (length ps ∷ []); subframes = x.subframes; dsms = ds })
         (one_dsm x.dsms few.dsm_one)
-    go false e = refl
+    go false e =
+        ap (λ (n : ℕ). record { state = s; answer = refused n; subframes = []; dsms = [] })
+        (number_back (replay_checks s budget) tt (eqb-false q 0 e))
 
 pub any_calls : AnyCalls
 any_calls =
@@ -146,7 +154,7 @@ answer_back r x y z e = sym (undo_answer r.answer) ∙ ap (λ (o : Outcome). bac
 subframe_back : (r : Replayed) (x y z : List ℕ) {o : Outcome} → outcome r x y z ≡ o → r.subframe ≡ back_subframes o.subframes
 subframe_back r x y z e = sym (undo_subframes r.subframe) ∙ ap (λ (o : Outcome). back_subframes o.subframes) e
 
-begins : BeginReplay 3 1200 60 (record { replay = zeros.replay; answer = Ready })
+begins : BeginReplay 3 1200 60 (record { replay = zeros.replay; answer = Ok tt })
 unfolding begun refusal
 begins = refl
 

@@ -11,7 +11,6 @@ use lib.ListN.{length, replicate}
 use lib.Dec.{ltb, eqb}
 use borrow.Author.Tests.{ltb-true, ltb-false}
 use Rattle.layouts.specs.Answer.{Answer, refused, gives, refusal}
-use Rattle.layouts.proofs.Answers.{none_fails}
 use Rattle.layouts.specs.Gst.{svn_gst_checks}
 use Rattle.subframes.specs.Subframe.{Page, State as Subframes, new as new_subframes}
 use Rattle.subframes.specs.SubframePromises.{state as subframe_state}
@@ -26,7 +25,6 @@ use Rattle.dsms.specs.DsmPromises.{state as dsm_state}
 use Rattle.dsms.specs.DsmHistory.{History as DsmHistory, begun as blocks_begun}
 use Rattle.dsms.proofs.DsmHistory.{code_recovers as blocks_recover}
 use Rattle.dsms.proofs.DsmRecovery.{dsm_recovers}
-use Rattle.dsms.proofs.DsmSound.{Sound as Gathering}
 use Rattle.dsms.proofs.DsmUnique.{back_state as back_dsm}
 use Rattle.dsms.specs.DsmRecovery.{Call as Block, is_admitted as is_admitted_block, after as after_blocks}
 use Rattle.page_replay.specs.Replay.{no_totals, start, Time, Dsm, Totals, State, new, Begun, Run, skipped, replayed, pages_of, whole_pages, consumed}
@@ -38,10 +36,12 @@ use Rattle.page_replay.specs.ReplayHistory.{Beginning, Misfit, History, begun, c
 use Rattle.page_replay.specs.ReplayHistory.{dsms_from, first_subframes, first_dsms, pages_fed, blocks_fed, ReplayRecovers, refused_start, CallsAnswered}
 use Rattle.page_replay.specs.ReplayHistory.{Unchanged, RefusedChangesNothing, MisfitIsRefused}
 use Rattle.page_replay.specs.declared.replay.PageReplay.{PageReplay}
-use Rattle.page_replay.specs.declared.replay.ReplayAnswer.{ReplayAnswer}
-use Rattle.page_replay.specs.declared.replay.ReplayAnswer.TheVariants.{Refused}
+use Rattle.std.specs.Prelude.{Result, Err}
+use Rattle.layouts.specs.Refusals.{refusal_number}
+use Rattle.layouts.specs.declared.refusal.Refusal.{Refusal}
+use Rattle.layouts.specs.declared.refusal.Refusal.TheVariants.{SliceLength, RecordRange}
 use Rattle.page_replay.specs.declared.replay.Replayed.{Replayed}
-use Rattle.page_replay.proofs.PagePieces.{Good, good_onward, zeros_small, admitted_call, high_budget_7, split_anywhere, call_consumes}
+use Rattle.page_replay.proofs.PagePieces.{Good, good_first_page, good_onward, zeros_small, admitted_call, high_budget_7, split_anywhere, call_consumes}
 use Rattle.page_replay.proofs.PageRefusals.{other_dsm_bytes, other_subframes, other_place, replay_refused, replay_done}
 use Rattle.page_replay.proofs.ReplayUnique.{back_answer, back_subframes, back_dsms, back_state, undo_answer, undo_subframes, undo_dsms}
 use Rattle.subframes.proofs.Pages.{other_hkroot, other_mack}
@@ -95,14 +95,15 @@ module _ (c : PageReplay) (x y z bytes : List ℕ) (budget : ℕ) (r : Replayed)
       go (yes h) (no m) (yes d) = other_subframes (state c x y z) budget d (other_mack (state c x y z).subframes h m) (λ e. absurd (omega (arith, e)))
       go (yes h) (yes m) (yes d) = absurd (w (h, m, d))
 
-  misfit_call : Misfit x y z → ReplayPages c x y z bytes budget r x' y' z' → (r.answer ≡ Refused 1) × Unchanged c x y z r x' y' z'
+  misfit_call : Misfit x y z → ReplayPages c x y z bytes budget r x' y' z' → (r.answer ≡ Err SliceLength) × Unchanged c x y z r x' y' z'
   misfit_call w e =
       let q : outcome r x' y' z' ≡ record { state = state c x y z; answer = refused 1; subframes = []; dsms = [] } =
       e ∙ sym (replay_refused (state c x y z) bytes budget (misfit_1 w) (λ f. absurd (omega (arith, f)))) in
       (sym (undo_answer r.answer) ∙ ap (λ (o : Outcome). back_answer o.answer) q, unchanged 1 q)
 
 pub refused_changes_nothing : RefusedChangesNothing
-refused_changes_nothing c x y z bytes budget r x' y' z' n e f =
+refused_changes_nothing c x y z bytes budget r x' y' z' q e f =
+    let n : ℕ = refusal_number q in
     let a : (replay (state c x y z) bytes budget).answer ≡ refused n = ap (λ (o : Outcome). o.answer) (sym e) ∙ ap meaning_replay f in
     unchanged c x y z bytes budget r x' y' z' n (e ∙ refused_outcome (state c x y z) bytes budget n a)
 
@@ -193,26 +194,23 @@ new_first (misfit hkroot mack memory k w bytes budget r x' y' z' e) = new_first 
 -- A history that began in range is legal, as far as the totals go.
 good_new : {b : Beginning} → New b → refused_start b ≡ 0 → Good (first b) 0
 good_new {b} n z =
-    let f = none_fails (svn_gst_checks b.replay.satellite b.replay.week b.replay.time) tt z in
-    let none = n.no_totals_lem in
-    record {
-      sound =
-          record {
-            some = ltb-false b.replay.satellite 1 f.0;
-            few = ltb-false 36 b.replay.satellite f.1.0;
-            in_weeks = ltb-false 4095 b.replay.week f.1.1.0;
-            in_week = ltb-false 604799 b.replay.time f.1.1.1.0;
-            pages_few = omega (arith, ap (λ (t : Totals). t.pages) none);
-            skipped_few = omega (arith, ap (λ (t : Totals). t.skipped) none);
-            used_few = omega (arith, ap (λ (t : Totals). t.used) none);
-            unused_few = omega (arith, ap (λ (t : Totals). t.unused) none);
-            subframes_few = omega (arith, ap (λ (t : Totals). t.subframes) none);
-            dsms_few = omega (arith, ap (λ (t : Totals). t.dsms) none);
-            silent_few = omega (arith, ap (λ (t : Totals). t.silent) none);
-          };
-      collector = subst⁻¹ Collecting n.new_subframes_lem (sound_new b n);
-      dsms = subst⁻¹ Gathering n.new_dsms_lem (record { d208 = n.d208; id_low = omega arith });
-    }
+    let at = b.replay.next in
+    let is_new : first b ≡ new at.satellite at.week at.time b.hkroot b.mack b.memory =
+    ap (λ (s : Subframes). begun_with s (first b).dsms (first b).totals) n.new_subframes_lem
+    ∙ ap (λ (d : Dsms). begun_with (first_subframes b) d (first b).totals) n.new_dsms_lem
+    ∙ ap (begun_with (first_subframes b) (first_dsms b)) n.no_totals_lem in
+    subst⁻¹ (λ (s : State). Good s 0) is_new
+    (good_first_page at.satellite at.week at.time b.hkroot b.mack b.memory z n.h540 n.m2160 n.d208)
+  where
+    begun_with : Subframes → Dsms → Totals → State
+    begun_with s d t =
+        record {
+          satellite = b.replay.next.satellite;
+          next = record { week = b.replay.next.week; time = b.replay.next.time };
+          subframes = s;
+          dsms = d;
+          totals = t;
+        }
 
 -- Where `new` was refused every call is, and no page is consumed.
 few_none : true ≡ are_few no_totals
@@ -222,11 +220,11 @@ few_none = refl
 twelve : {b : Beginning} → New b → (refused_start b ≡ 0 → ⊥) → (budget : ℕ) → 12 ≡ refusal (replay_checks (first b) budget)
 twelve {b} n ne budget =
     other_place (first b) budget n.d208 (sound_admitted (first b).subframes (subst⁻¹ Collecting n.new_subframes_lem (sound_new b n))) refl
-    (omega (arith, ap (λ (d : Dsms). d.id) n.new_dsms_lem)) (few_none ∙ sym (ap are_few n.no_totals_lem)) refl refl ne
+    (omega (arith, ap (λ (d : Dsms). d.id) n.new_dsms_lem)) (few_none ∙ sym (ap are_few n.no_totals_lem)) refl ne
 
 stuck : {b : Beginning} {c : PageReplay} {h m d : List ℕ} {pages : List (List ℕ)} {subframes : List Time} {dsms : List Dsm}
     → History b c h m d pages subframes dsms → pages ≡ [] → (refused_start b ≡ 0 → ⊥) → (bytes : List ℕ) (budget : ℕ) (r : Replayed) (h' m' d' : List ℕ)
-    → ReplayPages c h m d bytes budget r h' m' d' → r.answer ≡ Refused 12
+    → ReplayPages c h m d bytes budget r h' m' d' → r.answer ≡ Err RecordRange
 unfolding replayed
 stuck {b} k none ne bytes budget r h' m' d' e =
     let at : state _ _ _ _ ≡ first b = ap (λ (x : Run). x.state) (reached k) ∙ ap (λ (ps : List (List ℕ)). (replayed (first b) ps).state) none in
@@ -240,7 +238,7 @@ unfolding pages_of
 never (begun satellite week time a e lh lm ld) ne = refl
 never (called {pages = pages} k bytes budget r h' m' d' e) ne =
     let none : pages ≡ [] = never k ne in
-    ap (λ (a : ReplayAnswer). pages ++ pages_of (reported (meaning_replay a)) bytes) (stuck k none ne bytes budget r h' m' d' e) ∙ append-nil pages ∙ none
+    ap (λ (a : Result ℕ Refusal). pages ++ pages_of (reported (meaning_replay a)) bytes) (stuck k none ne bytes budget r h' m' d' e) ∙ append-nil pages ∙ none
 never (misfit hkroot mack memory k w bytes budget r x' y' z' e) ne = never k ne
 
 numbered : (s : State) (n : ℕ) (bytes : List ℕ) (budget : ℕ) → Good s n → n ≤ most
@@ -278,7 +276,7 @@ pages_fit {b} {pages = pages} k = go (ℕ_discrete (refused_start b) 0)
     go : Dec (refused_start b ≡ 0) → Each Fits (pages_fed b pages)
     go (yes z) =
         let f = (good_new (new_first k) z).sound in
-        fed_fit pages b.replay.satellite (record { week = b.replay.week; time = b.replay.time }) f.some f.few f.in_weeks f.in_week
+        fed_fit pages b.replay.next.satellite (record { week = b.replay.next.week; time = b.replay.next.time }) f.some f.few f.in_weeks f.in_week
     go (no ne) = subst⁻¹ (λ (ps : List (List ℕ)). Each Fits (pages_fed b ps)) (never k ne) tt
 
 -- All together.

@@ -6,62 +6,58 @@ use Prim.Native.Nat.{ℕ}
 use Rattle.layouts.specs.Answer.{Answer, refused, nothing, gives}
 use Rattle.page_replay.specs.Agreed.{Agreed}
 use Rattle.page_replay.specs.Replay.{State, Time, Dsm, Begun, Outcome}
-use Rattle.page_replay.specs.ReplayPromises.{meaning_begun, meaning_replay, meaning_subframes, meaning_dsms, outcome, BeginReplay, ReplayPages}
+use Rattle.std.specs.Prelude.{Result, Ok, Err, Option, Some, None, ⊤}
+use Rattle.layouts.specs.Meaning.{meaning_done}
+use Rattle.layouts.specs.declared.refusal.Refusal.{Refusal}
+use Rattle.layouts.proofs.Back.{refusal_at, undo_refusal}
+use Rattle.page_replay.specs.ReplayPromises.{meaning_replay, meaning_subframes, meaning_dsms, outcome, BeginReplay, ReplayPages}
 use Rattle.page_replay.specs.declared.replay.PageReplay.{PageReplay}
-use Rattle.page_replay.specs.declared.replay.Begun.{Begun as BegunAnswer}
-use Rattle.page_replay.specs.declared.replay.Begun.TheVariants.{Refused, Ready}
 use Rattle.page_replay.specs.declared.replay.NewReplay.{NewReplay}
 use Rattle.page_replay.specs.declared.replay.SubframeDone.{SubframeDone}
-use Rattle.page_replay.specs.declared.replay.SubframeDone.TheVariants.{None, Subframe}
 use Rattle.page_replay.specs.declared.replay.DsmDone.{DsmDone}
-use Rattle.page_replay.specs.declared.replay.DsmDone.TheVariants.{None as NoDsm, Dsm as DsmIs}
-use Rattle.page_replay.specs.declared.replay.ReplayAnswer.{ReplayAnswer}
-use Rattle.page_replay.specs.declared.replay.ReplayAnswer.TheVariants.{Refused as ReplayRefused, Consumed}
 use Rattle.page_replay.specs.declared.replay.Replayed.{Replayed}
 
 -- `back` undoes each `meaning`
-abbrev pub back_begun : Answer → BegunAnswer
-back_begun (refused n) = Refused n
-back_begun nothing = Ready
-back_begun (gives l) = Ready
+abbrev pub back_begun : Answer → Result ⊤ Refusal
+back_begun (refused n) = Err (refusal_at n)
+back_begun nothing = Ok tt
+back_begun (gives l) = Ok tt
 
-pub undo_begun : (r : BegunAnswer) → back_begun (meaning_begun r) ≡ r
-undo_begun (Refused n) = refl
-undo_begun Ready = refl
+pub undo_begun : (r : Result ⊤ Refusal) → back_begun (meaning_done r) ≡ r
+undo_begun (Err e) = ap Err (undo_refusal e)
+undo_begun (Ok x) = refl
 
-abbrev pub back_answer : Answer → ReplayAnswer
-back_answer (refused n) = ReplayRefused n
-back_answer nothing = Consumed 0
-back_answer (gives []) = Consumed 0
-back_answer (gives (n ∷ l)) = Consumed n
+abbrev pub back_answer : Answer → Result ℕ Refusal
+back_answer (refused n) = Err (refusal_at n)
+back_answer nothing = Ok 0
+back_answer (gives []) = Ok 0
+back_answer (gives (n ∷ l)) = Ok n
 
-pub undo_answer : (r : ReplayAnswer) → back_answer (meaning_replay r) ≡ r
-undo_answer (ReplayRefused n) = refl
-undo_answer (Consumed n) = refl
+pub undo_answer : (r : Result ℕ Refusal) → back_answer (meaning_replay r) ≡ r
+undo_answer (Err e) = ap Err (undo_refusal e)
+undo_answer (Ok n) = refl
 
-abbrev pub back_subframes : List Time → SubframeDone
+abbrev pub back_subframes : List Time → Option SubframeDone
 back_subframes [] = None
-back_subframes (t ∷ l) = Subframe t.week t.time
+back_subframes (t ∷ l) = Some (record { week = t.week; time = t.time })
 
-pub undo_subframes : (r : SubframeDone) → back_subframes (meaning_subframes r) ≡ r
+pub undo_subframes : (r : Option SubframeDone) → back_subframes (meaning_subframes r) ≡ r
 undo_subframes None = refl
-undo_subframes (Subframe w t) = refl
+undo_subframes (Some d) = refl
 
-abbrev pub back_dsms : List Dsm → DsmDone
-back_dsms [] = NoDsm
-back_dsms (d ∷ l) = DsmIs d.id d.bytes
+abbrev pub back_dsms : List Dsm → Option DsmDone
+back_dsms [] = None
+back_dsms (d ∷ l) = Some (record { id = d.id; bytes = d.bytes })
 
-pub undo_dsms : (r : DsmDone) → back_dsms (meaning_dsms r) ≡ r
-undo_dsms NoDsm = refl
-undo_dsms (DsmIs i n) = refl
+pub undo_dsms : (r : Option DsmDone) → back_dsms (meaning_dsms r) ≡ r
+undo_dsms None = refl
+undo_dsms (Some d) = refl
 
 -- the record is its state without the lent bytes
 abbrev pub back_state : State → PageReplay
 back_state s =
     record {
-      satellite = s.satellite;
-      week = s.next.week;
-      time = s.next.time;
+      next = record { satellite = s.satellite; week = s.next.week; time = s.next.time };
       subframes = record { week = s.subframes.week; subframe = s.subframes.subframe; counts = s.subframes.counts };
       dsms = record { id = s.dsms.id; came = s.dsms.came; held = s.dsms.held; done = s.dsms.done };
       pages = s.totals.pages;
@@ -79,7 +75,7 @@ back_new b = record { replay = back_state b.state; answer = back_begun b.answer 
 pub begin_replay : (satellite week time : ℕ) (r s : NewReplay) → BeginReplay satellite week time r → BeginReplay satellite week time s → r ≡ s
 begin_replay satellite week time r s p q = whole r ∙ ap back_new (p ∙ sym q) ∙ sym (whole s)
   where
-    whole : (f : NewReplay) → ◌≡◌ {A = NewReplay} f (record { replay = f.replay; answer = back_begun (meaning_begun f.answer) })
+    whole : (f : NewReplay) → ◌≡◌ {A = NewReplay} f (record { replay = f.replay; answer = back_begun (meaning_done f.answer) })
     whole f = rw (undo_begun f.answer)
 
 abbrev pub back_outcome : Outcome → Replayed

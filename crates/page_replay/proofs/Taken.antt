@@ -13,8 +13,10 @@ use Rattle.subframes.specs.Subframe.{State, record_checks, view_checks, view}
 use Rattle.subframes.specs.SubframePromises.{state, ViewSubframeShown}
 use Rattle.subframes.specs.declared.subframe.CollectSubframe.{CollectSubframe}
 use Rattle.subframes.specs.declared.subframe.Message.TheVariants.{Hkroot}
-use Rattle.subframes.specs.declared.subframe.SubframeShown.{SubframeShown}
-use Rattle.subframes.specs.declared.subframe.SubframeShown.TheVariants.{Shown, Nothing as NothingShown, Refused as NotShown}
+use Rattle.layouts.specs.declared.part.Part.{Part}
+use Rattle.std.specs.Prelude.{Result, Ok, Err, Option, Some, None}
+use Rattle.layouts.specs.Refusals.{refused_by}
+use Rattle.layouts.specs.declared.refusal.Refusal.{Refusal}
 
 -- the question for satellite 1, which is refused where the record or the lent bytes are
 module _ (s : State) where
@@ -50,12 +52,11 @@ module _ (s : State) where
       admits (eqb (refusal (view_checks s 1)) 0) (eqb (get_or s.counts (1 - 1) 0) 15) (gives (first ∷ many ∷ [])) refl
       (λ n g. let z : ◌≡◌ {A = ℕ} 0 1 = cc in absurd (omega arith)) f
 
-module _ (c : CollectSubframe) (h m : List ℕ) (x : SubframeShown) (e : ViewSubframeShown c h m Hkroot 1 x) where
-  pub asked_refused : {n : ℕ} → x ≡ NotShown n → n ≡ refusal (record_checks (state c h m))
-  asked_refused g = refused_with (state c h m) (rw g at e)
-
-  pub asked_nothing : x ≡ NothingShown → 0 ≡ refusal (record_checks (state c h m))
-  asked_nothing g = nothing_there (state c h m) (rw g at e)
-
-  pub asked_shown : {first many : ℕ} → x ≡ Shown first many → 0 ≡ refusal (record_checks (state c h m))
-  asked_shown g = shown_there (state c h m) (rw g at e)
+module _ (c : CollectSubframe) (h m : List ℕ) (x : Result (Option Part) Refusal) (e : ViewSubframeShown c h m Hkroot 1 x) where
+  pub asked : refused_by x ≡ refusal (record_checks (state c h m))
+  asked = go x e
+    where
+      go : (y : Result (Option Part) Refusal) → ViewSubframeShown c h m Hkroot 1 y → refused_by y ≡ refusal (record_checks (state c h m))
+      go (Err q) f = refused_with (state c h m) f
+      go (Ok None) f = nothing_there (state c h m) f
+      go (Ok (Some p)) f = shown_there (state c h m) f

@@ -3,6 +3,9 @@
 -- changed by these calls only."
 -- Assumes nothing.
 use Rattle.std.specs.Prelude.{ℕ, ◌≤◌, min, List, [], ◌∷◌, ◌++◌, true, false, cond, ◌≡◌, length, get_or, take, drop, replicate, ltb}
+use Rattle.std.specs.Prelude.{Result, Ok, Err, Some, None, ⊤}
+use Rattle.layouts.specs.declared.refusal.Refusal.{Refusal}
+use Rattle.layouts.specs.declared.refusal.Refusal.TheVariants.{SliceLength, Argument, RecordRange}
 use Rattle.layouts.specs.Answer.{Answer, refused, gives, refusal}
 use Rattle.layouts.specs.Gst.{svn_gst_checks}
 use Rattle.layouts.specs.InavPage.{is_counted, osnma}
@@ -10,7 +13,6 @@ use Rattle.subframes.specs.Subframe.{Page, State as Subframes, new as new_subfra
 use Rattle.subframes.specs.SubframePromises.{state as subframe_state}
 use Rattle.subframes.specs.SubframeRecovery.{is_admitted as is_admitted_page, after as after_pages, run as run_of_pages, Words, Recovers as PageRecovers}
 use Rattle.subframes.specs.SubframeHistory.{History as SubframeHistory, ShowsPair, ShowsNone}
-use Rattle.subframes.specs.declared.subframe.SubframeShown.TheVariants.{Nothing}
 use Rattle.dsms.specs.Dsm.{State as Dsms, new as new_dsms}
 use Rattle.dsms.specs.DsmPromises.{state as dsm_state}
 use Rattle.dsms.specs.DsmRecovery.{Call as Block, is_admitted as is_admitted_block, fed_to, after as after_blocks, run as run_of_blocks, Recovers as BlockRecovers}
@@ -19,12 +21,7 @@ use Rattle.page_replay.specs.Replay.{Time, later, Dsm, Run, hkroot_of, subframes
 use Rattle.page_replay.specs.Pieces.{reported, good_page, last_page}
 use Rattle.page_replay.specs.ReplayPromises.{state, meaning_replay, meaning_subframes, meaning_dsms, BeginReplay, ReplayPages}
 use Rattle.page_replay.specs.declared.replay.PageReplay.{PageReplay}
-use Rattle.page_replay.specs.declared.replay.Begun.{Begun}
-use Rattle.page_replay.specs.declared.replay.Begun.TheVariants.{Ready}
 use Rattle.page_replay.specs.declared.replay.NewReplay.{NewReplay}
-use Rattle.page_replay.specs.declared.replay.ReplayAnswer.TheVariants.{Refused, Consumed}
-use Rattle.page_replay.specs.declared.replay.SubframeDone.TheVariants.{None, Subframe}
-use Rattle.page_replay.specs.declared.replay.DsmDone.TheVariants.{None as NoDsm}
 use Rattle.page_replay.specs.declared.replay.Replayed.{Replayed}
 
 -- How it began: the record that `new` handed back, and the memory then.
@@ -41,7 +38,7 @@ Misfit hkroot mack memory = (length hkroot ≡ 540) × (length mack ≡ 2160) ×
 -- What the caller holds after some calls: the record and the memory; the pages that they consumed, the oldest first; the subframes and DSMs that they answered.
 pub data History (b : Beginning) : PageReplay → List ℕ → List ℕ → List ℕ → List (List ℕ) → List Time → List Dsm → Type 0 where
   -- "new at the start", with any memory. (A record of zeros, where `new` is refused, is refused with 12 at every call.)
-  begun : (satellite week time : ℕ) (a : Begun) → BeginReplay satellite week time (record { replay = b.replay; answer = a })
+  begun : (satellite week time : ℕ) (a : Result ⊤ Refusal) → BeginReplay satellite week time (record { replay = b.replay; answer = a })
       → length b.hkroot ≡ 540 → length b.mack ≡ 2160 → length b.memory ≡ 208
       → History b b.replay b.hkroot b.mack b.memory [] [] []
   -- a call with the record and the memory as they are, with any bytes and any budget: "and reports that number", which is none where it is refused
@@ -103,7 +100,7 @@ abbrev pub first_dsms : Beginning → Dsms
 first_dsms b = new_dsms b.memory
 
 abbrev pub pages_fed : Beginning → List (List ℕ) → List Page
-pages_fed b pages = fed_from b.replay.satellite (record { week = b.replay.week; time = b.replay.time }) pages
+pages_fed b pages = fed_from b.replay.next.satellite (record { week = b.replay.next.week; time = b.replay.next.time }) pages
 
 abbrev pub blocks_fed : Beginning → List (List ℕ) → List Block
 blocks_fed b pages = blocks_from (first_subframes b) (pages_fed b pages)
@@ -136,7 +133,7 @@ pub record Recovered (b : Beginning) (c : PageReplay) (hkroot mack memory : List
   pub shows_pair : (satellite : ℕ) → 1 ≤ satellite → satellite ≤ 36 → Words satellite (run_of_pages (pages_fed b pages))
       → ShowsPair c.subframes hkroot mack (run_of_pages (pages_fed b pages)) satellite
   pub shows_none : (satellite : ℕ) → 1 ≤ satellite → satellite ≤ 36 → (Words satellite (run_of_pages (pages_fed b pages)) → ⊥)
-      → ShowsNone c.subframes hkroot mack satellite Nothing
+      → ShowsNone c.subframes hkroot mack satellite None
   pub shows_dsm : ShowsDsm c.dsms memory (run_of_blocks (blocks_fed b pages))
 
 abbrev pub ReplayRecovers : Type 0
@@ -146,12 +143,12 @@ ReplayRecovers =
 
 -- A call after a history gets its number: 7 for a budget above 15 and no other, as long as no total can be above 2^62; 12 always, where `new` was refused.
 abbrev pub refused_start : Beginning → ℕ
-refused_start b = refusal (svn_gst_checks b.replay.satellite b.replay.week b.replay.time)
+refused_start b = refusal (svn_gst_checks b.replay.next.satellite b.replay.next.week b.replay.next.time)
 
 pub record CallAnswers (b : Beginning) (pages : List (List ℕ)) (bytes : List ℕ) (budget : ℕ) (r : Replayed) : Type 0 where
   pub in_range : refused_start b ≡ 0 → length pages ≤ most
       → meaning_replay r.answer ≡ cond (ltb 15 budget) (refused 7) (gives (min budget (whole_pages bytes) ∷ []))
-  pub never_began : (refused_start b ≡ 0 → ⊥) → (pages ≡ []) × (r.answer ≡ Refused 12)
+  pub never_began : (refused_start b ≡ 0 → ⊥) → (pages ≡ []) × (r.answer ≡ Err RecordRange)
 
 abbrev pub CallsAnswered : Type 0
 CallsAnswered =
@@ -167,18 +164,18 @@ pub record Unchanged (c : PageReplay) (hkroot mack memory : List ℕ) (r : Repla
   pub mack_is : mack' ≡ mack
   pub memory_is : memory' ≡ memory
   pub no_subframe : r.subframe ≡ None
-  pub no_dsm : r.dsm ≡ NoDsm
+  pub no_dsm : r.dsm ≡ None
 
 abbrev pub RefusedChangesNothing : Type 0
 RefusedChangesNothing =
-    (c : PageReplay) (hkroot mack memory bytes : List ℕ) (budget : ℕ) (r : Replayed) (hkroot' mack' memory' : List ℕ) (n : ℕ)
-    → ReplayPages c hkroot mack memory bytes budget r hkroot' mack' memory' → r.answer ≡ Refused n
+    (c : PageReplay) (hkroot mack memory bytes : List ℕ) (budget : ℕ) (r : Replayed) (hkroot' mack' memory' : List ℕ) (e : Refusal)
+    → ReplayPages c hkroot mack memory bytes budget r hkroot' mack' memory' → r.answer ≡ Err e
     → Unchanged c hkroot mack memory r hkroot' mack' memory'
 
 abbrev pub MisfitIsRefused : Type 0
 MisfitIsRefused =
     (c : PageReplay) (x y z bytes : List ℕ) (budget : ℕ) (r : Replayed) (x' y' z' : List ℕ) → Misfit x y z
-    → ReplayPages c x y z bytes budget r x' y' z' → (r.answer ≡ Refused 1) × Unchanged c x y z r x' y' z'
+    → ReplayPages c x y z bytes budget r x' y' z' → (r.answer ≡ Err SliceLength) × Unchanged c x y z r x' y' z'
 
 -- No premise is empty: whatever is handed in, each call has an answer that meets its promise.
 pub record AnyCalls : Type 0 where
@@ -192,9 +189,7 @@ zeros =
     record {
       replay =
           record {
-            satellite = 3;
-            week = 1200;
-            time = 60;
+            next = record { satellite = 3; week = 1200; time = 60 };
             subframes = record { week = 0; subframe = 0; counts = replicate 36 0 };
             dsms = record { id = 0; came = false; held = replicate 16 false; done = false };
             pages = 0;
@@ -219,14 +214,14 @@ good_pages n = joined (replicate n good_page)
 
 -- It is refused with 7, and with the other eight the subframe is silent, or complete if the last byte is 1; with seven of them it is neither.
 pub record SmallestCase : Type 0 where
-  pub begins : BeginReplay 3 1200 60 (record { replay = zeros.replay; answer = Ready })
+  pub begins : BeginReplay 3 1200 60 (record { replay = zeros.replay; answer = Ok tt })
   pub comes_out_lem : {c : PageReplay} {hkroot mack memory : List ℕ} → History zeros c hkroot mack memory (replicate 7 good_page) [] []
       → (bytes : List ℕ) (r : Replayed) (hkroot' mack' memory' : List ℕ) → ReplayPages c hkroot mack memory bytes 16 r hkroot' mack' memory'
       → (q : Replayed) (hkroot'' mack'' memory'' : List ℕ) → ReplayPages r.replay hkroot' mack' memory' (good_pages 8) 15 q hkroot'' mack'' memory''
-      → (r.answer ≡ Refused 7) × (q.answer ≡ Consumed 8) × (q.subframe ≡ None) × (q.replay.silent ≡ 1)
+      → (r.answer ≡ Err Argument) × (q.answer ≡ Ok 8) × (q.subframe ≡ None) × (q.replay.silent ≡ 1)
   pub completes : {c : PageReplay} {hkroot mack memory : List ℕ} → History zeros c hkroot mack memory (replicate 7 good_page) [] []
       → (q : Replayed) (hkroot' mack' memory' : List ℕ) → ReplayPages c hkroot mack memory (good_pages 7 ++ last_page) 15 q hkroot' mack' memory'
-      → (q.answer ≡ Consumed 8) × (q.subframe ≡ Subframe 1200 60) × (q.replay.silent ≡ 0)
+      → (q.answer ≡ Ok 8) × (q.subframe ≡ Some (record { week = 1200; time = 60 })) × (q.replay.silent ≡ 0)
   pub stays_out : {c : PageReplay} {hkroot mack memory : List ℕ} → History zeros c hkroot mack memory (replicate 7 good_page) [] []
       → (q : Replayed) (hkroot' mack' memory' : List ℕ) → ReplayPages c hkroot mack memory (good_pages 7) 15 q hkroot' mack' memory'
-      → (q.answer ≡ Consumed 7) × (q.subframe ≡ None) × (q.replay.silent ≡ 0)
+      → (q.answer ≡ Ok 7) × (q.subframe ≡ None) × (q.replay.silent ≡ 0)

@@ -11,41 +11,41 @@ ghost use Rattle.page_replay.specs.inner.Steps.{ran, Room, InRange};
 use crate::page_time;
 use crate::replay::{DsmDone, PageReplay, SubframeDone};
 use dsms::dsm;
-use dsms::dsm::{CollectDsm, DsmAnswer, DsmFed};
+use dsms::dsm::{CollectDsm, CompleteDsm, DsmFed};
 use layouts::inav_page;
 use layouts::inav_page::PageKind;
+use layouts::refusal::Refusal;
 use subframes::subframe;
-use subframes::subframe::{CollectSubframe, SubframeAnswer, SubframeFed, WordAnswer};
+use subframes::subframe::{CollectSubframe, Pair, SubframeFed};
+
+// That a record is in range (`InRange`, `Room`) is a fact of each step and no invariant of its type: any record may be handed in, and is refused otherwise.
+// The lent slices are three parameters, as `replay::replay` has them.
 
 // What pages made of a replay, and what they completed.
 #[derive(Clone, Copy)]
 pub(crate) struct Stepped {
     pub replay: PageReplay,
-    pub subframe: SubframeDone,
-    pub dsm: DsmDone,
+    pub subframe: Option<SubframeDone>,
+    pub dsm: Option<DsmDone>,
 }
 
-// Whether the page counts.
+// Whether the page counts. A match of all three, and no `matches!`: tried, and it does not tell which of the others it was.
 fn counts(page: &[u8]) -> bool
     requires { length page.now ≡ 30 }
     ensures { result ≡ is_counted page.now }
 {
     match inav_page::kind(page) {
-        PageKind::Counts => true,
-        PageKind::Skipped => false,
-        PageKind::Refused(_) => false,
+        Ok(PageKind::Counts) => true,
+        Ok(PageKind::Skipped) => false,
+        Err(_) => false,
     }
 }
 
 // Whether the subframe collector's question is answered with yes.
-fn is_taken(answer: WordAnswer) -> bool
+fn is_taken(answer: Result<bool, Refusal>) -> bool
     ensures { result ≡ is_taken (meaning_word answer) }
 {
-    match answer {
-        WordAnswer::Refused(_) => false,
-        WordAnswer::Unused => false,
-        WordAnswer::Used => true,
-    }
+    matches!(answer, Ok(true))
 }
 
 // An HKROOT message feeds the DSM collector: byte 1 is the DSM header, the block follows it.
@@ -55,7 +55,7 @@ fn feed_message(dsms: CollectDsm, dsm: &mut [u8], message: [u8; 15]) -> DsmFed
     dsm::feed(dsms, dsm, message[1], &message[2..15])
 }
 
-// So does the satellite's message, handed over whole.
+// So does the satellite's message, handed over whole; zeros where none is shown, as the definition (`hkroot_of`) has them.
 fn feed_hkroot(
     collector: CollectSubframe,
     hkroot: &[u8],
@@ -67,8 +67,10 @@ fn feed_hkroot(
     ensures { dsm_outcome result dsm.new
         ≡ fed_hkroot (dsm_state dsms dsm.old) (hkroot_of (subframe_state collector hkroot.now mack.now) satellite) }
 {
-    let message = subframe::hkroot_message(collector, hkroot, mack, satellite);
-    let bytes = message.bytes;
+    let bytes = match subframe::hkroot_message(collector, hkroot, mack, satellite) {
+        Ok(Some(message)) => message.bytes,
+        Ok(None) | Err(_) => [0; 15],
+    };
     feed_message(dsms, dsm, bytes)
 }
 
@@ -85,90 +87,46 @@ fn pass_on(
         ≡ passed_on (subframes_in (meaning_subframe fed.answer))
         (subframe_state fed.collector hkroot.now mack.now) satellite (dsm_state dsms dsm.old) }
 {
-    let answer = fed.answer;
-    match answer {
-        SubframeAnswer::Refused(_) => DsmFed {
+    match fed.answer {
+        Ok(Some(Pair::Complete { .. })) => feed_hkroot(
+            fed.collector,
+            hkroot,
+            mack,
+            satellite,
+            dsms,
+            dsm,
+        ),
+        Ok(None) | Ok(Some(Pair::Silent { .. })) | Err(_) => DsmFed {
             collector: dsms,
-            answer: DsmAnswer::Nothing,
-        },
-        SubframeAnswer::Nothing => DsmFed {
-            collector: dsms,
-            answer: DsmAnswer::Nothing,
-        },
-        SubframeAnswer::Complete { week: _, time: _ } => {
-            let collector = fed.collector;
-            feed_hkroot(collector, hkroot, mack, satellite, dsms, dsm)
-        }
-        SubframeAnswer::Silent { week: _, time: _ } => DsmFed {
-            collector: dsms,
-            answer: DsmAnswer::Nothing,
+            answer: Ok(None),
         },
     }
 }
 
-fn subframe_done(answer: SubframeAnswer) -> SubframeDone
+fn subframe_done(answer: Result<Option<Pair>, Refusal>) -> Option<SubframeDone>
     ensures { meaning_subframes result ≡ subframes_in (meaning_subframe answer) }
 {
     match answer {
-        SubframeAnswer::Refused(_) => SubframeDone::None,
-        SubframeAnswer::Nothing => SubframeDone::None,
-        SubframeAnswer::Complete { week, time } => SubframeDone::Subframe { week, time },
-        SubframeAnswer::Silent { week: _, time: _ } => SubframeDone::None,
+        Ok(Some(Pair::Complete { week, time })) => Some(SubframeDone { week, time }),
+        _ => None,
     }
 }
 
 // How many silent subframes an answer tells of.
-fn silent_in(answer: SubframeAnswer) -> u64
+fn silent_in(answer: Result<Option<Pair>, Refusal>) -> u64
     ensures value { result ≡ length (silent_in (meaning_subframe answer)) }
     ensures upper_bound { result ≤ 1 }
 {
-    match answer {
-        SubframeAnswer::Refused(_) => 0,
-        SubframeAnswer::Nothing => 0,
-        SubframeAnswer::Complete { week: _, time: _ } => 0,
-        SubframeAnswer::Silent { week: _, time: _ } => 1,
-    }
+    u64::from(matches!(answer, Ok(Some(Pair::Silent { .. }))))
 }
 
-fn dsm_done(answer: DsmAnswer) -> DsmDone
+fn dsm_done(answer: Result<Option<CompleteDsm>, Refusal>) -> Option<DsmDone>
     ensures { meaning_dsms result ≡ dsms_in (meaning_dsm answer) }
 {
     match answer {
-        DsmAnswer::Refused(_) => DsmDone::None,
-        DsmAnswer::Nothing => DsmDone::None,
-        DsmAnswer::Complete {
-            id,
-            dsm_type: _,
-            bytes,
-        } => DsmDone::Dsm { id, bytes },
+        Ok(Some(CompleteDsm { id, bytes, .. })) => Some(DsmDone { id, bytes }),
+        _ => None,
     }
-}
-
-fn subframes_in(done: SubframeDone) -> u64
-    ensures { result ≡ length (meaning_subframes done) }
-{
-    match done {
-        SubframeDone::None => 0,
-        SubframeDone::Subframe { week: _, time: _ } => 1,
-    }
-}
-
-fn dsms_in(done: DsmDone) -> u64
-    ensures { result ≡ length (meaning_dsms done) }
-{
-    match done {
-        DsmDone::None => 0,
-        DsmDone::Dsm { id: _, bytes: _ } => 1,
-    }
-}
-
-fn one(b: bool) -> u64
-    ensures { result ≡ one_of b }
-{
-    if b {
-        return 1;
-    }
-    0
 }
 
 // After a page that counts, used or not, by what the two collectors made of it.
@@ -177,26 +135,19 @@ fn tally(record: PageReplay, used: bool, fed: SubframeFed, passed: DsmFed) -> St
     ensures { (h m d h₀ m₀ d₀ : List ℕ) → ran result h m d
         ≡ counted_of (state «record» h₀ m₀ d₀) used (subframe_outcome fed h m) (dsm_outcome passed d) }
 {
-    let answer = fed.answer;
-    let dsm_answer = passed.answer;
-    let subframe = subframe_done(answer);
-    let dsm = dsm_done(dsm_answer);
-    let at = page_time::later(record.week, record.time);
-    let subframes = fed.collector;
-    let dsms = passed.collector;
+    let subframe = subframe_done(fed.answer);
+    let dsm = dsm_done(passed.answer);
     let replay = PageReplay {
-        satellite: record.satellite,
-        week: at.week,
-        time: at.time,
-        subframes,
-        dsms,
+        next: page_time::later(record.next),
+        subframes: fed.collector,
+        dsms: passed.collector,
         pages: record.pages + 1,
         skipped: record.skipped,
-        used: record.used + one(used),
-        unused: record.unused + one(!used),
-        subframes_done: record.subframes_done + subframes_in(subframe),
-        dsms_done: record.dsms_done + dsms_in(dsm),
-        silent: record.silent + silent_in(answer),
+        used: record.used + u64::from(used),
+        unused: record.unused + u64::from(!used),
+        subframes_done: record.subframes_done + u64::from(subframe.is_some()),
+        dsms_done: record.dsms_done + u64::from(dsm.is_some()),
+        silent: record.silent + silent_in(fed.answer),
     };
     Stepped {
         replay,
@@ -210,16 +161,14 @@ fn skip(record: PageReplay) -> Stepped
     requires { InRange «record» × Room «record» (2 ^ 62 + 14) }
     ensures { (h m d : List ℕ) → ran result h m d ≡ skipped_of (state «record» h m d) }
 {
-    let at = page_time::later(record.week, record.time);
     let mut replay = record;
-    replay.week = at.week;
-    replay.time = at.time;
+    replay.next = page_time::later(record.next);
     replay.pages = record.pages + 1;
     replay.skipped = record.skipped + 1;
     Stepped {
         replay,
-        subframe: SubframeDone::None,
-        dsm: DsmDone::None,
+        subframe: None,
+        dsm: None,
     }
 }
 
@@ -234,19 +183,13 @@ fn feed_page(
     requires { InRange «record» × Room «record» (2 ^ 62 + 14) × (length page.now ≡ 30) }
     ensures { ran result hkroot.new mack.new dsm.new
         ≡ fed_of (state «record» hkroot.old mack.old dsm.old)
-        (record { bytes = osnma_of page.now; satellite = «record».satellite; week = «record».week; time = «record».time }) }
+        (record { bytes = osnma_of page.now; satellite = «record».next.satellite; week = «record».next.week; time = «record».next.time }) }
 {
-    let satellite = record.satellite;
-    let week = record.week;
-    let time = record.time;
-    let collector = record.subframes;
-    let dsms = record.dsms;
-    let answer = subframe::is_used(collector, satellite, week, time);
-    let used = is_taken(answer);
-    let field = inav_page::osnma(page);
-    let bytes = field.bytes;
-    let fed = subframe::feed(collector, hkroot, mack, &bytes, satellite, week, time);
-    let passed = pass_on(fed, hkroot, mack, satellite, dsms, dsm);
+    let stamp = record.next;
+    let used = is_taken(subframe::is_used(record.subframes, stamp));
+    let bytes = inav_page::osnma(page).unwrap();
+    let fed = subframe::feed(record.subframes, hkroot, mack, &bytes, stamp);
+    let passed = pass_on(fed, hkroot, mack, stamp.satellite, record.dsms, dsm);
     tally(record, used, fed, passed)
 }
 

@@ -1,33 +1,21 @@
-// The time of a page, and of the next.
+// The time of the next page.
 ghost use Rattle.std.specs.Prelude.{◌≡◌, ◌≤◌};
 ghost use Rattle.page_replay.specs.Replay.{Time, later as later_of};
 
-// The time of a page.
-#[derive(Clone, Copy)]
-pub(crate) struct PageTime {
-    pub week: u16,
-    pub time: u32,
-}
+use layouts::gst::Stamp;
 
-// Two seconds later.
-pub(crate) fn later(week: u16, time: u32) -> PageTime
-    requires { (week ≤ 4095) × (time ≤ 604799) }
-    ensures { ◌≡◌ {A = Time} (record { week = result.week; time = result.time }) (later_of (record { week = week; time = time })) }
+// The same satellite's, two seconds later.
+pub(crate) fn later(at: Stamp) -> Stamp
+    requires { (at.week ≤ 4095) × (at.time ≤ 604799) }
+    ensures satellite { result.satellite ≡ at.satellite }
+    ensures time { ◌≡◌ {A = Time} (record { week = result.week; time = result.time }) (later_of (record { week = at.week; time = at.time })) }
 {
-    if time < 604798 {
-        return PageTime {
-            week,
-            time: time + 2,
-        };
+    let mut next = at;
+    if at.time < 604798 {
+        next.time = at.time + 2;
+        return next;
     }
-    if week == 4095 {
-        return PageTime {
-            week: 0,
-            time: time - 604798,
-        };
-    }
-    PageTime {
-        week: week + 1,
-        time: time - 604798,
-    }
+    next.time = at.time - 604798;
+    next.week = if at.week == 4095 { 0 } else { at.week + 1 };
+    next
 }

@@ -1,7 +1,7 @@
 // A file of pages, replayed page by page.
 ghost use Rattle.std.specs.Prelude.{◌≡◌, [], ◌++◌, ◌+◌, ◌*◌, ◌^◌, ◌≤◌, length};
 ghost use Rattle.layouts.specs.Answer.{refusal as refusal_of};
-ghost use Rattle.layouts.specs.Gst.{svn_gst_checks};
+ghost use Rattle.layouts.specs.Refusals.{refused_by};
 ghost use Rattle.page_replay.specs.Replay.{new as new_of, and_then, replayed, pages_of, are_few, replay_checks};
 ghost use Rattle.subframes.specs.Subframe.{record_checks};
 ghost use Rattle.subframes.specs.SubframePromises.{state as subframe_state};
@@ -12,16 +12,16 @@ use crate::page_step;
 use crate::page_step::Stepped;
 use dsms::dsm;
 use dsms::dsm::CollectDsm;
-use layouts::{gst, numbers};
+use layouts::gst::Stamp;
+use layouts::refusal::Refusal;
 use subframes::subframe;
-use subframes::subframe::{CollectSubframe, Message, SubframeShown};
+use subframes::subframe::{CollectSubframe, Message};
 
-// A running replay: satellite, week and time of the next page, the two collectors' records, and the totals so far.
+// A running replay: satellite, week and time of the next page, the two collectors' records, and the totals so far. The caller may hand in any numbers: out of
+// range they are refused, so that the type has no invariant.
 #[derive(Clone, Copy)]
 pub struct PageReplay {
-    pub satellite: u8,
-    pub week: u16,
-    pub time: u32,
+    pub next: Stamp,
     pub subframes: CollectSubframe,
     pub dsms: CollectDsm,
     pub pages: u64,
@@ -34,64 +34,42 @@ pub struct PageReplay {
 }
 
 #[derive(Clone, Copy)]
-pub enum Begun {
-    Refused(u8),
-    Ready,
-}
-
-#[derive(Clone, Copy)]
 pub struct NewReplay {
     pub replay: PageReplay,
-    pub answer: Begun,
+    pub answer: Result<(), Refusal>,
 }
 
-// The subframe that was completed, with its time.
-#[derive(Clone, Copy)]
-pub enum SubframeDone {
-    None,
-    Subframe { week: u16, time: u32 },
+// A subframe that was completed, by its time.
+#[derive(Clone, Copy, Debug, PartialEq, Eq)]
+pub struct SubframeDone {
+    pub week: u16,
+    pub time: u32,
 }
 
-// The DSM that was completed, and how many bytes it has.
-#[derive(Clone, Copy)]
-pub enum DsmDone {
-    None,
-    Dsm { id: u8, bytes: usize },
+// A DSM that was completed, and how many bytes it has.
+#[derive(Clone, Copy, Debug, PartialEq, Eq)]
+pub struct DsmDone {
+    pub id: u8,
+    pub bytes: usize,
 }
 
-#[derive(Clone, Copy)]
-pub enum ReplayAnswer {
-    Refused(u8),
-    Consumed(usize),
-}
-
+// How many pages were consumed, and what they completed.
 #[derive(Clone, Copy)]
 pub struct Replayed {
     pub replay: PageReplay,
-    pub answer: ReplayAnswer,
-    pub subframe: SubframeDone,
-    pub dsm: DsmDone,
-}
-
-// The refusal number of a satellite, a week and a time; 0 for none.
-fn new_refuses(satellite: u8, week: u16, time: u32) -> u8
-    ensures { result ≡ refusal_of (svn_gst_checks satellite week time) }
-{
-    gst::refuses(satellite as u64, week as u64, time as u64)
+    pub answer: Result<usize, Refusal>,
+    pub subframe: Option<SubframeDone>,
+    pub dsm: Option<DsmDone>,
 }
 
 // A record of no pages yet.
-fn fresh(satellite: u8, week: u16, time: u32) -> PageReplay
-    ensures { state result [] [] [] ≡ new_of satellite week time [] [] [] }
+fn fresh(stamp: Stamp) -> PageReplay
+    ensures { state result [] [] [] ≡ new_of stamp.satellite stamp.week stamp.time [] [] [] }
 {
-    let subframes = subframe::new();
-    let dsms = dsm::new();
     PageReplay {
-        satellite,
-        week,
-        time,
-        subframes,
-        dsms,
+        next: stamp,
+        subframes: subframe::new(),
+        dsms: dsm::new(),
         pages: 0,
         skipped: 0,
         used: 0,
@@ -102,43 +80,23 @@ fn fresh(satellite: u8, week: u16, time: u32) -> PageReplay
     }
 }
 
-// A replay of a satellite from the time of its first page on. Refuses 2, 3, 4.
-pub fn new(satellite: u8, week: u16, time: u32) -> NewReplay
-    ensures { BeginReplay satellite week time result }
+// A replay of a satellite from the time of its first page on; of zeros where it is refused, since the record stands beside the answer. Refuses 2, 3, 4.
+pub fn new(stamp: Stamp) -> NewReplay
+    ensures { BeginReplay stamp.satellite stamp.week stamp.time result }
 {
-    let refusal = new_refuses(satellite, week, time);
-    if refusal != 0 {
-        let zeros = fresh(0, 0, 0);
-        return NewReplay {
-            replay: zeros,
-            answer: Begun::Refused(refusal),
-        };
-    }
-    let begun = fresh(satellite, week, time);
-    NewReplay {
-        replay: begun,
-        answer: Begun::Ready,
-    }
-}
-
-// Of two that are not both there, the one that is.
-fn either_subframe(first: SubframeDone, second: SubframeDone) -> SubframeDone
-    requires { length (meaning_subframes first ++ meaning_subframes second) ≤ 1 }
-    ensures { meaning_subframes result ≡ meaning_subframes first ++ meaning_subframes second }
-{
-    match first {
-        SubframeDone::None => second,
-        SubframeDone::Subframe { week, time } => SubframeDone::Subframe { week, time },
-    }
-}
-
-fn either_dsm(first: DsmDone, second: DsmDone) -> DsmDone
-    requires { length (meaning_dsms first ++ meaning_dsms second) ≤ 1 }
-    ensures { meaning_dsms result ≡ meaning_dsms first ++ meaning_dsms second }
-{
-    match first {
-        DsmDone::None => second,
-        DsmDone::Dsm { id, bytes } => DsmDone::Dsm { id, bytes },
+    match stamp.check() {
+        Ok(()) => NewReplay {
+            replay: fresh(stamp),
+            answer: Ok(()),
+        },
+        Err(refusal) => NewReplay {
+            replay: fresh(Stamp {
+                satellite: 0,
+                week: 0,
+                time: 0,
+            }),
+            answer: Err(refusal),
+        },
     }
 }
 
@@ -155,23 +113,15 @@ fn and_then(
     ensures { ran result hkroot.new mack.new dsm.new
         ≡ and_then (ran so_far hkroot.old mack.old dsm.old) page.now }
 {
-    let before = so_far.replay;
-    let subframe_before = so_far.subframe;
-    let dsm_before = so_far.dsm;
-    let next = page_step::page_step(before, hkroot, mack, dsm, page);
-    let replay = next.replay;
-    let subframe_now = next.subframe;
-    let dsm_now = next.dsm;
-    let subframe = either_subframe(subframe_before, subframe_now);
-    let completed = either_dsm(dsm_before, dsm_now);
+    let next = page_step::page_step(so_far.replay, hkroot, mack, dsm, page);
     Stepped {
-        replay,
-        subframe,
-        dsm: completed,
+        replay: next.replay,
+        subframe: so_far.subframe.or(next.subframe),
+        dsm: so_far.dsm.or(next.dsm),
     }
 }
 
-// The first `n` pages.
+// The first `n` pages. By number, and no chunks: each turn is proved of the first `k` pages of the slice, and changes the record and the lent memory.
 fn run(
     record: PageReplay,
     hkroot: &mut [u8],
@@ -186,15 +136,13 @@ fn run(
 {
     let mut so_far = Stepped {
         replay: record,
-        subframe: SubframeDone::None,
-        dsm: DsmDone::None,
+        subframe: None,
+        dsm: None,
     };
-    let mut k = 0;
-    while k < n {
+    for k in 0..n {
         let start = 30 * k;
         let end = start + 30;
         so_far = and_then(so_far, hkroot, mack, dsm, &pages[start..end]);
-        k += 1;
     }
     so_far
 }
@@ -203,72 +151,56 @@ fn run(
 fn totals_few(record: PageReplay) -> bool
     ensures { result ≡ are_few (state «record» [] [] []).totals }
 {
-    let most: u64 = 1 << 62;
-    if most < record.pages {
-        return false;
-    }
-    if most < record.skipped {
-        return false;
-    }
-    if most < record.used {
-        return false;
-    }
-    if most < record.unused {
-        return false;
-    }
-    if most < record.subframes_done {
-        return false;
-    }
-    if most < record.dsms_done {
-        return false;
-    }
-    if most < record.silent {
-        return false;
-    }
-    true
+    let totals = [
+        record.pages,
+        record.skipped,
+        record.used,
+        record.unused,
+        record.subframes_done,
+        record.dsms_done,
+        record.silent,
+    ];
+    totals.iter().all(|total| *total <= 1 << 62)
 }
 
-// The refusal number of the lent bytes and the record of the subframe collector, which its question answers for any satellite; 0 for none.
-fn subframes_refuse(collector: CollectSubframe, hkroot: &[u8], mack: &[u8]) -> u8
-    ensures { result ≡ refusal_of (record_checks (subframe_state collector hkroot.now mack.now)) }
+// What the subframe collector refuses of the lent bytes and its record, which its question answers for any satellite.
+fn check_subframes(collector: CollectSubframe, hkroot: &[u8], mack: &[u8]) -> Result<(), Refusal>
+    ensures { refused_by result ≡ refusal_of (record_checks (subframe_state collector hkroot.now mack.now)) }
 {
-    let shown = subframe::view_shown(collector, hkroot, mack, Message::Hkroot, 1);
-    match shown {
-        SubframeShown::Refused(n) => n,
-        SubframeShown::Nothing => 0,
-        SubframeShown::Shown { first: _, many: _ } => 0,
-    }
+    subframe::view_shown(collector, hkroot, mack, Message::Hkroot, 1)?;
+    Ok(())
 }
 
-// The refusal number; 0 for none.
-fn refuses(record: PageReplay, hkroot: &[u8], mack: &[u8], dsm: &[u8], budget: usize) -> u8
-    ensures { result ≡ refusal_of (replay_checks (state «record» hkroot.now mack.now dsm.now) budget) }
+fn check(
+    record: PageReplay,
+    hkroot: &[u8],
+    mack: &[u8],
+    dsm: &[u8],
+    budget: usize,
+) -> Result<(), Refusal>
+    ensures { refused_by result ≡ refusal_of (replay_checks (state «record» hkroot.now mack.now dsm.now) budget) }
 {
     if dsm.len() != 208 {
-        return 1;
+        return Err(Refusal::SliceLength);
     }
-    let collector = record.subframes;
-    let refusal = subframes_refuse(collector, hkroot, mack);
-    if refusal != 0 {
-        return refusal;
-    }
+    check_subframes(record.subframes, hkroot, mack)?;
     if 15 < record.dsms.id {
-        return 12;
+        return Err(Refusal::RecordRange);
     }
     if !totals_few(record) {
-        return 12;
+        return Err(Refusal::RecordRange);
     }
-    if new_refuses(record.satellite, record.week, record.time) != 0 {
-        return 12;
+    if record.next.check().is_err() {
+        return Err(Refusal::RecordRange);
     }
     if 15 < budget {
-        return 7;
+        return Err(Refusal::Argument);
     }
-    0
+    Ok(())
 }
 
 // Consumes the smaller of the budget and the whole pages lent, and reports that number. Refuses 1 for lent bytes other than 540, 2,160 and 208,
-// 12 for the record, 7 for a budget above 15.
+// 12 for the record, 7 for a budget above 15. The lent memory is three slices, each handed on to one of the collectors as it takes it.
 pub fn replay(
     record: PageReplay,
     hkroot: &mut [u8],
@@ -280,24 +212,20 @@ pub fn replay(
     ensures { ReplayPages «record» hkroot.old mack.old dsm.old pages.now budget result
         hkroot.new mack.new dsm.new }
 {
-    let refusal = refuses(record, hkroot, mack, dsm, budget);
-    if refusal != 0 {
+    if let Err(refusal) = check(record, hkroot, mack, dsm, budget) {
         return Replayed {
             replay: record,
-            answer: ReplayAnswer::Refused(refusal),
-            subframe: SubframeDone::None,
-            dsm: DsmDone::None,
+            answer: Err(refusal),
+            subframe: None,
+            dsm: None,
         };
     }
-    let n = numbers::smaller(budget, pages.len() / 30);
+    let n = budget.min(pages.len() / 30);
     let done = run(record, hkroot, mack, dsm, pages, n);
-    let replay = done.replay;
-    let subframe = done.subframe;
-    let completed = done.dsm;
     Replayed {
-        replay,
-        answer: ReplayAnswer::Consumed(n),
-        subframe,
-        dsm: completed,
+        replay: done.replay,
+        answer: Ok(n),
+        subframe: done.subframe,
+        dsm: done.dsm,
     }
 }

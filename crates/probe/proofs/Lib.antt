@@ -1,4 +1,2 @@
-pub mod Telling
-pub mod Calls
-pub mod WalkCalls
+pub mod Places
 pub mod Unique

@@ -1,4 +1,4 @@
-// The DSM collector.
+// The DSM collector. The records are laid out as C has them (`repr(C)`, tests/c and tests/differential), so that each has a `From` of its own each way.
 ghost use Rattle.std.specs.Prelude.{◌≡◌};
 ghost use Rattle.probe.specs.Dsm.{collector_of, record_of, DsmNew, DsmFeed, DsmView, DsmViewAnswer};
 
@@ -22,27 +22,31 @@ pub struct DsmCalled {
     pub answer: Told,
 }
 
-fn collector_of(from: DsmRecord) -> CollectDsm
-    ensures { result ≡ collector_of from }
-{
-    let held = from.held;
-    CollectDsm {
-        id: from.id,
-        came: from.came,
-        held,
-        done: from.done,
+impl From<DsmRecord> for CollectDsm {
+    ghost from_gives = { λ from r. r ≡ collector_of from };
+
+    fn from(from: DsmRecord) -> CollectDsm {
+        let held = from.held;
+        CollectDsm {
+            id: from.id,
+            came: from.came,
+            held,
+            done: from.done,
+        }
     }
 }
 
-fn record_of(from: CollectDsm) -> DsmRecord
-    ensures { result ≡ record_of from }
-{
-    let held = from.held;
-    DsmRecord {
-        id: from.id,
-        came: from.came,
-        held,
-        done: from.done,
+impl From<CollectDsm> for DsmRecord {
+    ghost from_gives = { λ from r. r ≡ record_of from };
+
+    fn from(from: CollectDsm) -> DsmRecord {
+        let held = from.held;
+        DsmRecord {
+            id: from.id,
+            came: from.came,
+            held,
+            done: from.done,
+        }
     }
 }
 
@@ -51,7 +55,7 @@ fn record_of(from: CollectDsm) -> DsmRecord
 pub extern "C" fn probe_dsm_new() -> DsmRecord
     ensures { DsmNew result }
 {
-    record_of(dsms::dsm::new())
+    DsmRecord::from(dsms::dsm::new())
 }
 
 // `dsm::feed`.
@@ -64,11 +68,11 @@ pub extern "C" fn probe_dsm_feed(
 ) -> DsmCalled
     ensures { DsmFeed collector dsm.old header block.now result dsm.new }
 {
-    let before = collector_of(collector);
+    let before = CollectDsm::from(collector);
     let fed = dsms::dsm::feed(before, dsm, header, block);
     let answer = fed.answer;
     DsmCalled {
-        collector: record_of(fed.collector),
+        collector: DsmRecord::from(fed.collector),
         answer: tell::dsm(answer),
     }
 }
@@ -78,7 +82,7 @@ pub extern "C" fn probe_dsm_feed(
 pub extern "C" fn probe_dsm_view(collector: DsmRecord, dsm: &[u8], out: &mut [u8]) -> Told
     ensures { DsmView collector dsm.now out.old result out.new }
 {
-    let from = collector_of(collector);
+    let from = CollectDsm::from(collector);
     let shown = dsms::dsm::view_shown(from, dsm);
     let part = dsms::dsm::view(from, dsm);
     tell::copy(part, out);
@@ -90,6 +94,6 @@ pub extern "C" fn probe_dsm_view(collector: DsmRecord, dsm: &[u8], out: &mut [u8
 pub extern "C" fn probe_dsm_view_answer(collector: DsmRecord, dsm: &[u8]) -> Told
     ensures { DsmViewAnswer collector dsm.now result }
 {
-    let from = collector_of(collector);
+    let from = CollectDsm::from(collector);
     tell::dsm(dsms::dsm_view::view_answer(from, dsm))
 }

@@ -1,10 +1,12 @@
-// The MACK store.
+// The MACK store. Its record as C has it: arrays of one length side by side, and satellite, week and time one by one, as C hands them over.
 ghost use Rattle.std.specs.Prelude.{◌≡◌};
-ghost use Rattle.probe.specs.Store.{storage_of, record_of, StoreNew, StoreStore, StoreGet};
+ghost use Rattle.storage.specs.StorePromises.{storage_of as places_of};
+ghost use Rattle.probe.specs.Store.{storage_of, StoreNew, StoreStore, StoreGet};
 
 use crate::tell;
 use crate::tell::Told;
-use storage::mack_storage::MackStorage;
+use layouts::gst::Stamp;
+use storage::mack_storage::{MackStorage, Place};
 
 #[repr(C)]
 #[derive(Clone, Copy)]
@@ -25,43 +27,51 @@ pub struct StoreCalled {
     pub answer: Told,
 }
 
-fn storage_of(from: StoreRecord) -> MackStorage
-    ensures { result ≡ storage_of from }
-{
-    let timed = from.timed;
-    let weeks = from.weeks;
-    let tows = from.tows;
-    let counts = from.counts;
-    let satellites = from.satellites;
-    let statuses = from.statuses;
-    MackStorage {
-        current: from.current,
-        timed,
-        weeks,
-        tows,
-        counts,
-        satellites,
-        statuses,
+impl From<StoreRecord> for MackStorage {
+    ghost from_gives = { λ from r. places_of r ≡ storage_of from };
+
+    fn from(from: StoreRecord) -> MackStorage {
+        let empty = Place {
+            timed: false,
+            count: 0,
+            week: 0,
+            tow: 0,
+        };
+        let mut places = [empty; 12];
+        for p in 0..12 {
+            places[p] = Place {
+                timed: from.timed[p],
+                count: from.counts[p],
+                week: from.weeks[p],
+                tow: from.tows[p],
+            };
+        }
+        let satellites = from.satellites;
+        let statuses = from.statuses;
+        MackStorage {
+            current: from.current,
+            places,
+            satellites,
+            statuses,
+        }
     }
 }
 
-fn record_of(from: MackStorage) -> StoreRecord
-    ensures { result ≡ record_of from }
-{
-    let timed = from.timed;
-    let weeks = from.weeks;
-    let tows = from.tows;
-    let counts = from.counts;
-    let satellites = from.satellites;
-    let statuses = from.statuses;
-    StoreRecord {
-        current: from.current,
-        timed,
-        weeks,
-        tows,
-        counts,
-        satellites,
-        statuses,
+impl From<MackStorage> for StoreRecord {
+    ghost from_gives = { λ from r. storage_of r ≡ places_of from };
+
+    fn from(from: MackStorage) -> StoreRecord {
+        let satellites = from.satellites;
+        let statuses = from.statuses;
+        StoreRecord {
+            current: from.current,
+            timed: from.places.map(|p| p.timed),
+            weeks: from.places.map(|p| p.week),
+            tows: from.places.map(|p| p.tow),
+            counts: from.places.map(|p| p.count),
+            satellites,
+            statuses,
+        }
     }
 }
 
@@ -70,7 +80,7 @@ fn record_of(from: MackStorage) -> StoreRecord
 pub extern "C" fn probe_store_new() -> StoreRecord
     ensures { StoreNew result }
 {
-    record_of(storage::mack_storage::new())
+    StoreRecord::from(storage::mack_storage::new())
 }
 
 // `mack_storage::store`.
@@ -88,13 +98,16 @@ pub extern "C" fn probe_store_store(
         (record { message = message.now; asked = record { satellite = satellite; week = week; time = time }; status = status })
         result memory.new }
 {
-    let before = storage_of(storage);
-    let stored = storage::mack_storage::store(
-        before, memory, message, satellite, week, time, status,
-    );
+    let before = MackStorage::from(storage);
+    let stamp = Stamp {
+        satellite,
+        week,
+        time,
+    };
+    let stored = storage::mack_storage::store(before, memory, message, stamp, status);
     let answer = stored.answer;
     StoreCalled {
-        storage: record_of(stored.storage),
+        storage: StoreRecord::from(stored.storage),
         answer: tell::store(answer),
     }
 }
@@ -104,5 +117,10 @@ pub extern "C" fn probe_store_store(
 pub extern "C" fn probe_store_get(storage: StoreRecord, satellite: u8, week: u16, time: u32) -> Told
     ensures { StoreGet storage (record { satellite = satellite; week = week; time = time }) result }
 {
-    tell::found(storage::mack_storage::get(storage_of(storage), satellite, week, time))
+    let stamp = Stamp {
+        satellite,
+        week,
+        time,
+    };
+    tell::found(storage::mack_storage::get(MackStorage::from(storage), stamp))
 }

@@ -1,10 +1,12 @@
-// The subframe collector.
-ghost use Rattle.std.specs.Prelude.{◌≡◌};
+// The subframe collector. Records as C has them, with a `From` of their own each way; satellite, week and time, and the two lent buffers, one by one, as C hands
+// them over; zeros where there is none, since a C record has no Option.
+ghost use Rattle.std.specs.Prelude.{◌≡◌, replicate};
 ghost use Rattle.probe.specs.Subframe.{collector_of, record_of, message_of, SubframeNew, SubframeFeed, SubframeFeedAll};
 ghost use Rattle.probe.specs.Subframe.{SubframeView, SubframeCameOut, SubframeHkrootMessage, WordTake};
 
 use crate::tell;
 use crate::tell::Told;
+use layouts::gst::Stamp;
 use subframes::subframe::{CollectSubframe, Message, WordCount};
 
 #[repr(C)]
@@ -44,25 +46,29 @@ pub struct WordTold {
     pub answer: Told,
 }
 
-pub(crate) fn collector_of(from: SubframeRecord) -> CollectSubframe
-    ensures { result ≡ collector_of from }
-{
-    let counts = from.counts;
-    CollectSubframe {
-        week: from.week,
-        subframe: from.subframe,
-        counts,
+impl From<SubframeRecord> for CollectSubframe {
+    ghost from_gives = { λ from r. r ≡ collector_of from };
+
+    fn from(from: SubframeRecord) -> CollectSubframe {
+        let counts = from.counts;
+        CollectSubframe {
+            week: from.week,
+            subframe: from.subframe,
+            counts,
+        }
     }
 }
 
-fn record_of(from: CollectSubframe) -> SubframeRecord
-    ensures { result ≡ record_of from }
-{
-    let counts = from.counts;
-    SubframeRecord {
-        week: from.week,
-        subframe: from.subframe,
-        counts,
+impl From<CollectSubframe> for SubframeRecord {
+    ghost from_gives = { λ from r. r ≡ record_of from };
+
+    fn from(from: CollectSubframe) -> SubframeRecord {
+        let counts = from.counts;
+        SubframeRecord {
+            week: from.week,
+            subframe: from.subframe,
+            counts,
+        }
     }
 }
 
@@ -80,7 +86,7 @@ fn message_of(mack: bool) -> Message
 pub extern "C" fn probe_subframe_new() -> SubframeRecord
     ensures { SubframeNew result }
 {
-    record_of(subframes::subframe::new())
+    SubframeRecord::from(subframes::subframe::new())
 }
 
 // `subframe::feed`.
@@ -98,11 +104,16 @@ pub extern "C" fn probe_subframe_feed(
         (record { bytes = page.now; satellite = satellite; week = week; time = time })
         result hkroot.new mack.new }
 {
-    let before = collector_of(collector);
-    let fed = subframes::subframe::feed(before, hkroot, mack, page, satellite, week, time);
+    let before = CollectSubframe::from(collector);
+    let stamp = Stamp {
+        satellite,
+        week,
+        time,
+    };
+    let fed = subframes::subframe::feed(before, hkroot, mack, page, stamp);
     let answer = fed.answer;
     SubframeCalled {
-        collector: record_of(fed.collector),
+        collector: SubframeRecord::from(fed.collector),
         answer: tell::subframe(answer),
     }
 }
@@ -117,11 +128,11 @@ pub extern "C" fn probe_subframe_feed_all(
 ) -> SubframeTraced
     ensures { SubframeFeedAll collector hkroot.old mack.old trace.now result hkroot.new mack.new }
 {
-    let before = collector_of(collector);
+    let before = CollectSubframe::from(collector);
     let fed = subframes::trace::feed_all(before, hkroot, mack, trace);
     let answer = fed.answer;
     SubframeTraced {
-        collector: record_of(fed.collector),
+        collector: SubframeRecord::from(fed.collector),
         answer: tell::subframe(answer),
         consumed: fed.consumed as u64,
     }
@@ -139,12 +150,12 @@ pub extern "C" fn probe_subframe_view<'a>(
 ) -> Told
     ensures { SubframeView collector hkroot.now mack.now of_mack satellite out.old result out.new }
 {
-    let from = collector_of(collector);
+    let from = CollectSubframe::from(collector);
     let message = message_of(of_mack);
     let shown = subframes::subframe::view_shown(from, hkroot, mack, message, satellite);
     let part = subframes::subframe::view(from, hkroot, mack, message, satellite);
     tell::copy(part, out);
-    tell::subframe_shown(shown)
+    tell::part(shown)
 }
 
 // `subframe::came_out`.
@@ -157,13 +168,23 @@ pub extern "C" fn probe_subframe_came_out(
 ) -> Told
     ensures { SubframeCameOut collector hkroot.now mack.now satellite result }
 {
-    let from = collector_of(collector);
+    let from = CollectSubframe::from(collector);
     let answer = subframes::subframe::came_out(from, hkroot, mack, satellite);
     tell::subframe(answer)
 }
 
-// `subframe::hkroot_message`.
+fn no_message(answer: Told) -> HkrootTold
+    ensures { result ≡ record { answer = answer; bytes = replicate 15 0 } }
+{
+    HkrootTold {
+        answer,
+        bytes: [0; 15],
+    }
+}
+
+// `subframe::hkroot_message`; zeros where there is none.
 #[unsafe(no_mangle)]
+#[tactic(auto, unfolding(crate::specs::Telling::told))]
 pub extern "C" fn probe_subframe_hkroot_message(
     collector: SubframeRecord,
     hkroot: &[u8],
@@ -172,13 +193,17 @@ pub extern "C" fn probe_subframe_hkroot_message(
 ) -> HkrootTold
     ensures { SubframeHkrootMessage collector hkroot.now mack.now satellite result }
 {
-    let from = collector_of(collector);
-    let message = subframes::subframe::hkroot_message(from, hkroot, mack, satellite);
-    let answer = message.answer;
-    let bytes = message.bytes;
-    HkrootTold {
-        answer: tell::subframe_shown(answer),
-        bytes,
+    let from = CollectSubframe::from(collector);
+    match subframes::subframe::hkroot_message(from, hkroot, mack, satellite) {
+        Err(e) => no_message(tell::refused(e)),
+        Ok(None) => no_message(tell::nothing()),
+        Ok(Some(message)) => {
+            let bytes = message.bytes;
+            HkrootTold {
+                answer: tell::part(Ok(Some(message.part))),
+                bytes,
+            }
+        }
     }
 }
 
@@ -188,9 +213,9 @@ pub extern "C" fn probe_word_take(words: u8, word: u8) -> WordTold
     ensures { WordTake words word result }
 {
     let taken = WordCount { words }.take(word);
-    let answer = taken.answer;
+    let used = taken.used;
     WordTold {
-        next: taken.next.words as u64,
-        answer: tell::word(answer),
+        next: u64::from(taken.next.words),
+        answer: tell::word(used),
     }
 }

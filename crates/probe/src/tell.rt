@@ -1,20 +1,22 @@
 // An answer as four numbers.
+#![tactic(auto, unfolding(crate::specs::Telling::told))]
+
 ghost use Rattle.std.specs.Prelude.{◌≡◌};
-ghost use Rattle.dsms.specs.DsmPromises.{meaning_dsm, meaning_shown as meaning_dsm_shown};
+ghost use Rattle.layouts.specs.Refusals.{refusal_number};
+ghost use Rattle.dsms.specs.DsmPromises.{complete_numbers, meaning_dsm, meaning_shown as meaning_dsm_shown};
 ghost use Rattle.subframes.specs.SubframePromises.{meaning_subframe, meaning_shown, meaning_word};
-ghost use Rattle.storage.specs.StorePromises.{meaning_store, meaning_found};
-ghost use Rattle.transmitter.specs.WritePromises.{meaning_written, meaning_header};
-ghost use Rattle.recorder.specs.WalkPromises.{meaning_slots, meaning_count};
+ghost use Rattle.storage.specs.StorePromises.{meaning_store, meaning_get};
+ghost use Rattle.transmitter.specs.WritePromises.{meaning_written};
+ghost use Rattle.recorder.specs.WalkPromises.{field_number, verdict_numbers};
+ghost use Rattle.layouts.specs.Answer.{gives};
 ghost use Rattle.probe.specs.Telling.{told, copied_to};
 
-use dsms::dsm::{DsmAnswer, DsmShown};
-use layouts::dsm_header::DsmType;
-use recorder::slots::{SlotsAnswer, TagField};
-use recorder::timing::TimingCount;
-use storage::mack_storage::{MackFound, StoreAnswer};
-use subframes::subframe::{SubframeAnswer, SubframeShown, WordAnswer};
-use transmitter::answer::WriteAnswer;
-use transmitter::blocks::BlockHeader;
+use dsms::dsm::CompleteDsm;
+use layouts::part::Part;
+use layouts::refusal::Refusal;
+use recorder::slots::{TagField, Verdict};
+use storage::mack_storage::MackFound;
+use subframes::subframe::Pair;
 
 // Kind 0 is nothing, 1 an answer with at most three numbers, zeros behind them, 2 a refusal with its number first.
 #[repr(C)]
@@ -27,6 +29,7 @@ pub struct Told {
 }
 
 // The bytes go to the front of the output, where it has room for all of them.
+#[tactic(auto, unfolding(crate::specs::Telling::copied_to))]
 pub(crate) fn copy(bytes: &[u8], out: &mut [u8])
     ensures { out.new ≡ copied_to out.old bytes.now }
 {
@@ -34,14 +37,11 @@ pub(crate) fn copy(bytes: &[u8], out: &mut [u8])
     if out.len() < many {
         return;
     }
-    let mut i = 0;
-    while i < many {
-        out[i] = bytes[i];
-        i += 1;
-    }
+    out[..many].copy_from_slice(bytes);
 }
 
-fn nothing() -> Told
+// One teller a type, a match each: told by one function that is handed what to tell of a value, each would need its own law (not plainer).
+pub(crate) fn nothing() -> Told
     ensures { result ≡ record { kind = 0; first = 0; second = 0; third = 0 } }
 {
     Told {
@@ -52,12 +52,12 @@ fn nothing() -> Told
     }
 }
 
-pub(crate) fn refused(n: u8) -> Told
-    ensures { result ≡ record { kind = 2; first = n; second = 0; third = 0 } }
+pub(crate) fn refused(refusal: Refusal) -> Told
+    ensures { result ≡ record { kind = 2; first = refusal_number refusal; second = 0; third = 0 } }
 {
     Told {
         kind: 2,
-        first: n as u64,
+        first: u64::from(refusal.number()),
         second: 0,
         third: 0,
     }
@@ -74,129 +74,104 @@ pub(crate) fn given(first: u64, second: u64, third: u64) -> Told
     }
 }
 
-pub(crate) fn subframe(answer: SubframeAnswer) -> Told
+pub(crate) fn subframe(answer: Result<Option<Pair>, Refusal>) -> Told
     ensures { result ≡ told (meaning_subframe answer) }
 {
     match answer {
-        SubframeAnswer::Refused(n) => refused(n),
-        SubframeAnswer::Nothing => nothing(),
-        SubframeAnswer::Complete { week, time } => given(week as u64, time as u64, 0),
-        SubframeAnswer::Silent { week, time } => given(week as u64, time as u64, 1),
+        Err(e) => refused(e),
+        Ok(None) => nothing(),
+        Ok(Some(Pair::Complete { week, time })) => given(u64::from(week), u64::from(time), 0),
+        Ok(Some(Pair::Silent { week, time })) => given(u64::from(week), u64::from(time), 1),
     }
 }
 
-pub(crate) fn subframe_shown(answer: SubframeShown) -> Told
+pub(crate) fn part(answer: Result<Option<Part>, Refusal>) -> Told
     ensures { result ≡ told (meaning_shown answer) }
 {
     match answer {
-        SubframeShown::Refused(n) => refused(n),
-        SubframeShown::Nothing => nothing(),
-        SubframeShown::Shown { first, many } => given(first as u64, many as u64, 0),
+        Err(e) => refused(e),
+        Ok(None) => nothing(),
+        Ok(Some(part)) => given(part.first as u64, part.many as u64, 0),
     }
 }
 
-pub(crate) fn word(answer: WordAnswer) -> Told
-    ensures { result ≡ told (meaning_word answer) }
+pub(crate) fn word(used: Result<bool, Refusal>) -> Told
+    ensures { result ≡ told (meaning_word used) }
 {
-    match answer {
-        WordAnswer::Refused(n) => refused(n),
-        WordAnswer::Unused => nothing(),
-        WordAnswer::Used => given(0, 0, 0),
+    match used {
+        Err(e) => refused(e),
+        Ok(false) => nothing(),
+        Ok(true) => given(0, 0, 0),
     }
 }
 
-pub(crate) fn dsm(answer: DsmAnswer) -> Told
+pub(crate) fn complete(d: CompleteDsm) -> Told
+    ensures { result ≡ told (gives (complete_numbers d)) }
+{
+    given(u64::from(d.id), d.dsm_type as u64, d.bytes as u64)
+}
+
+pub(crate) fn dsm(answer: Result<Option<CompleteDsm>, Refusal>) -> Told
     ensures { result ≡ told (meaning_dsm answer) }
 {
     match answer {
-        DsmAnswer::Refused(n) => refused(n),
-        DsmAnswer::Nothing => nothing(),
-        DsmAnswer::Complete {
-            id,
-            dsm_type,
-            bytes,
-        } => match dsm_type {
-            DsmType::Kroot => given(id as u64, 0, bytes as u64),
-            DsmType::Pkr => given(id as u64, 1, bytes as u64),
-        },
+        Err(e) => refused(e),
+        Ok(None) => nothing(),
+        Ok(Some(d)) => complete(d),
     }
 }
 
-pub(crate) fn dsm_shown(answer: DsmShown) -> Told
+pub(crate) fn dsm_shown(answer: Result<Option<usize>, Refusal>) -> Told
     ensures { result ≡ told (meaning_dsm_shown answer) }
 {
     match answer {
-        DsmShown::Refused(n) => refused(n),
-        DsmShown::Nothing => nothing(),
-        DsmShown::Shown(n) => given(0, n as u64, 0),
+        Err(e) => refused(e),
+        Ok(None) => nothing(),
+        Ok(Some(bytes)) => given(0, bytes as u64, 0),
     }
 }
 
-pub(crate) fn store(answer: StoreAnswer) -> Told
+pub(crate) fn store(answer: Result<(), Refusal>) -> Told
     ensures { result ≡ told (meaning_store answer) }
 {
     match answer {
-        StoreAnswer::Refused(n) => refused(n),
-        StoreAnswer::Stored => given(0, 0, 0),
+        Err(e) => refused(e),
+        Ok(()) => given(0, 0, 0),
     }
 }
 
-pub(crate) fn found(answer: MackFound) -> Told
-    ensures { result ≡ told (meaning_found answer) }
+pub(crate) fn found(answer: Result<Option<MackFound>, Refusal>) -> Told
+    ensures { result ≡ told (meaning_get answer) }
 {
     match answer {
-        MackFound::Refused(n) => refused(n),
-        MackFound::Nothing => nothing(),
-        MackFound::At { first, status } => given(first as u64, status as u64, 0),
+        Err(e) => refused(e),
+        Ok(None) => nothing(),
+        Ok(Some(found)) => given(found.first as u64, u64::from(found.status), 0),
     }
 }
 
-pub(crate) fn written(answer: WriteAnswer) -> Told
+pub(crate) fn written(answer: Result<CompleteDsm, Refusal>) -> Told
     ensures { result ≡ told (meaning_written answer) }
 {
     match answer {
-        WriteAnswer::Refused(n) => refused(n),
-        WriteAnswer::Wrote {
-            id,
-            dsm_type,
-            bytes,
-        } => match dsm_type {
-            DsmType::Kroot => given(id as u64, 0, bytes as u64),
-            DsmType::Pkr => given(id as u64, 1, bytes as u64),
-        },
+        Err(e) => refused(e),
+        Ok(d) => complete(d),
     }
 }
 
-pub(crate) fn header(answer: BlockHeader) -> Told
-    ensures { result ≡ told (meaning_header answer) }
+// 1 ADKD, 2 PRND.
+fn field_number(field: TagField) -> u64
+    ensures { result ≡ field_number field }
 {
-    match answer {
-        BlockHeader::Refused(n) => refused(n),
-        BlockHeader::Byte(n) => given(n as u64, 0, 0),
-    }
+    field as u64
 }
 
-pub(crate) fn slots(answer: SlotsAnswer) -> Told
-    ensures { result ≡ told (meaning_slots answer) }
+pub(crate) fn verdict(slots: Verdict) -> Told
+    ensures { result ≡ told (gives (verdict_numbers slots)) }
 {
-    match answer {
-        SlotsAnswer::Refused(n) => refused(n),
-        SlotsAnswer::Nothing => nothing(),
-        SlotsAnswer::AllFit => given(0, 0, 0),
-        SlotsAnswer::Breaks { tag, field } => match field {
-            TagField::Adkd => given(1, tag as u64, 1),
-            TagField::Prnd => given(1, tag as u64, 2),
-        },
-        SlotsAnswer::TagsDiffer { table, message } => given(2, table as u64, message as u64),
-    }
-}
-
-pub(crate) fn timing(count: TimingCount) -> Told
-    ensures { result ≡ told (meaning_count count) }
-{
-    match count {
-        TimingCount::Refused(n) => refused(n),
-        TimingCount::Nothing => nothing(),
-        TimingCount::Tags(n) => given(n as u64, 0, 0),
+    match slots {
+        Verdict::AllFit => given(0, 0, 0),
+        Verdict::Breaks { tag, field } => given(1, u64::from(tag), field_number(field)),
+        Verdict::TagsDiffer { table, message } => given(2, u64::from(table), u64::from(message)),
     }
 }

@@ -1,12 +1,16 @@
-// The recorder's questions of a MACK message.
-ghost use Rattle.std.specs.Prelude.{◌≡◌};
-ghost use Rattle.recorder.specs.WalkPromises.{meaning_walk};
+// The recorder's questions of a MACK message. Sizes and lent buffers one by one, as C hands them over; zeros where there is none.
+#![tactic(auto, unfolding(crate::specs::Telling::told))]
+
+ghost use Rattle.std.specs.Prelude.{◌≡◌, replicate};
+ghost use Rattle.recorder.specs.WalkPromises.{judged_walk};
 ghost use Rattle.probe.specs.Walks.{walk_told, WalkSlots, TimingTagsRead, WalkComplete};
 
 use crate::subframe::SubframeRecord;
+use crate::tell;
 use crate::tell::Told;
-use crate::{subframe, tell};
+use layouts::mack::{Mack, Sizes};
 use recorder::walk::Walked;
+use subframes::subframe::CollectSubframe;
 
 #[repr(C)]
 #[derive(Clone, Copy)]
@@ -23,21 +27,39 @@ pub struct TimingTold {
     pub tags: [u8; 9],
 }
 
-fn walk_told(walked: Walked) -> WalkTold
-    ensures { result ≡ walk_told (meaning_walk walked) }
+fn sizes(key_size_bytes: usize, tag_size_bits: usize) -> Sizes
+    ensures { (result.key_bytes ≡ key_size_bytes) × (result.tag_bits ≡ tag_size_bits) }
+{
+    Sizes {
+        key_bytes: key_size_bytes,
+        tag_bits: tag_size_bits,
+    }
+}
+
+fn judged(walked: Walked) -> WalkTold
+    ensures { result ≡ walk_told (judged_walk walked) }
 {
     let slots = walked.slots;
     let timing = walked.timing;
-    let count = timing.count;
     let tags = timing.tags;
     WalkTold {
-        slots: tell::slots(slots),
-        timing: tell::timing(count),
+        slots: tell::verdict(slots),
+        timing: tell::given(u64::from(timing.count), 0, 0),
         tags,
     }
 }
 
-// `walk::walk`.
+fn unjudged(answer: Told) -> WalkTold
+    ensures { result ≡ record { slots = answer; timing = answer; tags = replicate 9 0 } }
+{
+    WalkTold {
+        slots: answer,
+        timing: answer,
+        tags: [0; 9],
+    }
+}
+
+// `walk::walk`; zeros beside a refusal.
 #[unsafe(no_mangle)]
 pub extern "C" fn probe_walk(
     mack: &[u8],
@@ -49,10 +71,14 @@ pub extern "C" fn probe_walk(
 ) -> WalkTold
     ensures { WalkSlots mack.now key_size_bytes tag_size_bits sender maclt msg result }
 {
-    walk_told(recorder::walk::walk(mack, key_size_bytes, tag_size_bits, sender, maclt, msg))
+    let sizes = sizes(key_size_bytes, tag_size_bits);
+    match recorder::walk::walk(Mack { msg: mack, sizes }, sender, maclt, msg) {
+        Err(e) => unjudged(tell::refused(e)),
+        Ok(walked) => judged(walked),
+    }
 }
 
-// `timing::timing_tags`.
+// `timing::timing_tags`; zeros beside a refusal.
 #[unsafe(no_mangle)]
 pub extern "C" fn probe_timing_tags(
     mack: &[u8],
@@ -61,16 +87,23 @@ pub extern "C" fn probe_timing_tags(
 ) -> TimingTold
     ensures { TimingTagsRead mack.now key_size_bytes tag_size_bits result }
 {
-    let listed = recorder::timing::timing_tags(mack, key_size_bytes, tag_size_bits);
-    let count = listed.count;
-    let tags = listed.tags;
-    TimingTold {
-        timing: tell::timing(count),
-        tags,
+    let sizes = sizes(key_size_bytes, tag_size_bits);
+    match recorder::timing::timing_tags(Mack { msg: mack, sizes }) {
+        Err(e) => TimingTold {
+            timing: tell::refused(e),
+            tags: [0; 9],
+        },
+        Ok(listed) => {
+            let tags = listed.tags;
+            TimingTold {
+                timing: tell::given(u64::from(listed.count), 0, 0),
+                tags,
+            }
+        }
     }
 }
 
-// `walk::walk_complete`.
+// `walk::walk_complete`; zeros where there is no message.
 #[unsafe(no_mangle)]
 pub extern "C" fn probe_walk_complete<'a>(
     collector: SubframeRecord,
@@ -83,14 +116,11 @@ pub extern "C" fn probe_walk_complete<'a>(
 ) -> WalkTold
     ensures { WalkComplete collector hkroot.now mack.now satellite key_size_bytes tag_size_bits maclt result }
 {
-    let from = subframe::collector_of(collector);
-    walk_told(recorder::walk::walk_complete(
-        from,
-        hkroot,
-        mack,
-        satellite,
-        key_size_bytes,
-        tag_size_bits,
-        maclt,
-    ))
+    let from = CollectSubframe::from(collector);
+    let sizes = sizes(key_size_bytes, tag_size_bits);
+    match recorder::walk::walk_complete(from, hkroot, mack, satellite, sizes, maclt) {
+        Err(e) => unjudged(tell::refused(e)),
+        Ok(None) => unjudged(tell::nothing()),
+        Ok(Some(walked)) => judged(walked),
+    }
 }

@@ -1,4 +1,4 @@
-// The writers of KROOT and PKR messages.
+// The writers of KROOT and PKR messages. Records as C has them, with a `From` of their own each way, and zeros where there is none: a C record has no Option.
 ghost use Rattle.std.specs.Prelude.{◌≡◌};
 ghost use Rattle.transmitter.specs.WritePromises.{meaning_kroot, meaning_pkr};
 ghost use Rattle.probe.specs.Writers.{kroot_of, kroot_record_of, kroot_told, pkr_of, pkr_record_of, pkr_told};
@@ -6,8 +6,9 @@ ghost use Rattle.probe.specs.Writers.{WriteKroot, WritePkr, CutBlock, ReadKrootV
 
 use crate::tell;
 use crate::tell::Told;
-use transmitter::kroot::{KrootRead, KrootValues};
-use transmitter::pkr::{PkrRead, PkrValues};
+use layouts::refusal::Refusal;
+use transmitter::kroot::KrootValues;
+use transmitter::pkr::PkrValues;
 
 #[repr(C)]
 #[derive(Clone, Copy)]
@@ -55,70 +56,79 @@ pub struct PkrCalled {
     pub answer: Told,
 }
 
-fn kroot_of(from: KrootRecord) -> KrootValues
-    ensures { result ≡ kroot_of from }
-{
-    KrootValues {
-        nb_dk: from.nb_dk,
-        pkid: from.pkid,
-        cidkr: from.cidkr,
-        hf: from.hf,
-        mf: from.mf,
-        ks: from.ks,
-        ts: from.ts,
-        maclt: from.maclt,
-        wn_k: from.wn_k,
-        towh_k: from.towh_k,
-        alpha: from.alpha,
+impl From<KrootRecord> for KrootValues {
+    ghost from_gives = { λ from r. r ≡ kroot_of from };
+
+    fn from(from: KrootRecord) -> KrootValues {
+        KrootValues {
+            nb_dk: from.nb_dk,
+            pkid: from.pkid,
+            cidkr: from.cidkr,
+            hf: from.hf,
+            mf: from.mf,
+            ks: from.ks,
+            ts: from.ts,
+            maclt: from.maclt,
+            wn_k: from.wn_k,
+            towh_k: from.towh_k,
+            alpha: from.alpha,
+        }
     }
 }
 
-fn kroot_record_of(from: KrootValues) -> KrootRecord
-    ensures { result ≡ kroot_record_of from }
-{
-    KrootRecord {
-        nb_dk: from.nb_dk,
-        pkid: from.pkid,
-        cidkr: from.cidkr,
-        hf: from.hf,
-        mf: from.mf,
-        ks: from.ks,
-        ts: from.ts,
-        maclt: from.maclt,
-        wn_k: from.wn_k,
-        towh_k: from.towh_k,
-        alpha: from.alpha,
+impl From<KrootValues> for KrootRecord {
+    ghost from_gives = { λ from r. r ≡ kroot_record_of from };
+
+    fn from(from: KrootValues) -> KrootRecord {
+        KrootRecord {
+            nb_dk: from.nb_dk,
+            pkid: from.pkid,
+            cidkr: from.cidkr,
+            hf: from.hf,
+            mf: from.mf,
+            ks: from.ks,
+            ts: from.ts,
+            maclt: from.maclt,
+            wn_k: from.wn_k,
+            towh_k: from.towh_k,
+            alpha: from.alpha,
+        }
     }
 }
 
-fn pkr_of(from: PkrRecord) -> PkrValues
-    ensures { result ≡ pkr_of from }
-{
-    PkrValues {
-        nb_dp: from.nb_dp,
-        mid: from.mid,
-        npkt: from.npkt,
-        npkid: from.npkid,
+impl From<PkrRecord> for PkrValues {
+    ghost from_gives = { λ from r. r ≡ pkr_of from };
+
+    fn from(from: PkrRecord) -> PkrValues {
+        PkrValues {
+            nb_dp: from.nb_dp,
+            mid: from.mid,
+            npkt: from.npkt,
+            npkid: from.npkid,
+        }
     }
 }
 
-fn pkr_record_of(from: PkrValues) -> PkrRecord
-    ensures { result ≡ pkr_record_of from }
-{
-    PkrRecord {
-        nb_dp: from.nb_dp,
-        mid: from.mid,
-        npkt: from.npkt,
-        npkid: from.npkid,
+impl From<PkrValues> for PkrRecord {
+    ghost from_gives = { λ from r. r ≡ pkr_record_of from };
+
+    fn from(from: PkrValues) -> PkrRecord {
+        PkrRecord {
+            nb_dp: from.nb_dp,
+            mid: from.mid,
+            npkt: from.npkt,
+            npkid: from.npkid,
+        }
     }
 }
 
 // The raw numbers of a KROOT message as a record; zeros where they are refused.
-fn kroot_told(read: KrootRead) -> KrootCalled
+#[tactic(auto, unfolding(crate::specs::Telling::told, crate::specs::Writers::kroot_told))]
+fn kroot_told(read: Result<KrootValues, Refusal>) -> KrootCalled
     ensures { result ≡ kroot_told (meaning_kroot read) }
 {
     match read {
-        KrootRead::Refused(n) => KrootCalled {
+        Err(e) => KrootCalled {
             values: KrootRecord {
                 nb_dk: 0,
                 pkid: 0,
@@ -132,31 +142,32 @@ fn kroot_told(read: KrootRead) -> KrootCalled
                 towh_k: 0,
                 alpha: 0,
             },
-            answer: tell::refused(n),
+            answer: tell::refused(e),
         },
-        KrootRead::Values(v) => KrootCalled {
-            values: kroot_record_of(v),
+        Ok(v) => KrootCalled {
+            values: KrootRecord::from(v),
             answer: tell::given(0, 0, 0),
         },
     }
 }
 
 // The raw numbers of a PKR message as a record; zeros where they are refused.
-fn pkr_told(read: PkrRead) -> PkrCalled
+#[tactic(auto, unfolding(crate::specs::Telling::told, crate::specs::Writers::pkr_told))]
+fn pkr_told(read: Result<PkrValues, Refusal>) -> PkrCalled
     ensures { result ≡ pkr_told (meaning_pkr read) }
 {
     match read {
-        PkrRead::Refused(n) => PkrCalled {
+        Err(e) => PkrCalled {
             values: PkrRecord {
                 nb_dp: 0,
                 mid: 0,
                 npkt: 0,
                 npkid: 0,
             },
-            answer: tell::refused(n),
+            answer: tell::refused(e),
         },
-        PkrRead::Values(v) => PkrCalled {
-            values: pkr_record_of(v),
+        Ok(v) => PkrCalled {
+            values: PkrRecord::from(v),
             answer: tell::given(0, 0, 0),
         },
     }
@@ -174,7 +185,7 @@ pub extern "C" fn probe_write_kroot(
 ) -> Told
     ensures { WriteKroot dsm.old id values key.now signature.now padding.now result dsm.new }
 {
-    let given = kroot_of(values);
+    let given = KrootValues::from(values);
     let answer = transmitter::kroot::write_kroot(dsm, id, given, key, signature, padding);
     tell::written(answer)
 }
@@ -191,22 +202,29 @@ pub extern "C" fn probe_write_pkr(
 ) -> Told
     ensures { WritePkr dsm.old id values nodes.now key.now padding.now result dsm.new }
 {
-    let given = pkr_of(values);
+    let given = PkrValues::from(values);
     let answer = transmitter::pkr::write_pkr(dsm, id, given, nodes, key, padding);
     tell::written(answer)
 }
 
-// `blocks::block`.
+// `blocks::block`; zeros beside a refusal.
 #[unsafe(no_mangle)]
+#[tactic(auto, unfolding(crate::specs::Telling::told))]
 pub extern "C" fn probe_block(dsm: &[u8], id: u64, n: u64) -> BlockCalled
     ensures { CutBlock dsm.now id n result }
 {
-    let cut = transmitter::blocks::block(dsm, id, n);
-    let answer = cut.answer;
-    let bytes = cut.bytes;
-    BlockCalled {
-        bytes,
-        answer: tell::header(answer),
+    match transmitter::blocks::block(dsm, id, n) {
+        Err(e) => BlockCalled {
+            bytes: [0; 13],
+            answer: tell::refused(e),
+        },
+        Ok(cut) => {
+            let bytes = cut.bytes;
+            BlockCalled {
+                bytes,
+                answer: tell::given(u64::from(cut.header), 0, 0),
+            }
+        }
     }
 }
 

@@ -8,26 +8,32 @@ use native.Mathlib.Omega.{arith}
 use lib.Dec.{T, eqb, eqb-suc-zero}
 use lib.ListN.{length, get_or, drop, length-drop, length-take}
 use borrow.Author.Tests.{ne_eqb, ltb-false, eqb-true, not-false}
+use Rattle.std.specs.Prelude.{Result, Ok, Err, Option, Some, None}
+use Rattle.std.specs.Result.{IsErrAnd}
 use Rattle.layouts.specs.Answer.{Answer, refused, nothing, gives, shown, refusal, answered}
 use Rattle.layouts.specs.Gst.{svn_checks}
+use Rattle.layouts.specs.Refusals.{refusal_number}
+use Rattle.layouts.specs.declared.refusal.Refusal.{Refusal}
+use Rattle.layouts.proofs.Refused.{number_some, carried}
 use Rattle.layouts.proofs.Answers.{none_fails, all_pass, pass_n, equals, stopped, went_on}
 use Rattle.subframes.specs.Subframe.{State, is_silent, out_of, answer_at, view_checks, view, came_out}
 use Rattle.subframes.specs.SubframePromises.{meaning_subframe}
 use Rattle.subframes.specs.SubframeRecovery.{message}
-use Rattle.subframes.specs.declared.subframe.SubframeAnswer.{SubframeAnswer}
-use Rattle.subframes.specs.declared.subframe.SubframeAnswer.TheVariants.{Refused, Nothing, Complete, Silent}
+use Rattle.subframes.specs.declared.subframe.Pair.{Pair}
+use Rattle.subframes.specs.declared.subframe.Pair.TheVariants.{Complete, Silent}
 use Rattle.recorder.specs.Walk.{Walk, unjudged, table_checks, walk_checks, walk, message_of, complete_checks, walk_complete}
+use Rattle.recorder.specs.WalkPromises.{meaning_complete}
+use Rattle.recorder.specs.declared.walk.Walked.{Walked}
 
 -- where there is no message
-pub none_refused : (k T id msg : ℕ) {q : ℕ} {w : Walk} → q ≡ refusal (table_checks k T id msg) → (q ≡ 0 → ⊥) → w ≡ unjudged (refused q)
-    → w ≡ unjudged (answered (refusal (table_checks k T id msg)) nothing)
+pub none_refused : (k T id msg : ℕ) (r : Result (Option Walked) Refusal) (e : Refusal) → IsErrAnd r (λ (f : Refusal). f ≡ e)
+    → refusal_number e ≡ refusal (table_checks k T id msg) → meaning_complete r ≡ unjudged (answered (refusal (table_checks k T id msg)) nothing)
 unfolding answered
-none_refused k T id msg {q} e ne h = h ∙ rw (← e, ne_eqb q 0 ne)
+none_refused k T id msg r e i h = rw (carried r i, ← h, ne_eqb (refusal_number e) 0 (number_some e))
 
-pub none_told : (k T id msg : ℕ) {q : ℕ} → q ≡ refusal (table_checks k T id msg) → q ≡ 0
-    → unjudged nothing ≡ unjudged (answered (refusal (table_checks k T id msg)) nothing)
+pub none_told : (k T id msg : ℕ) → 0 ≡ refusal (table_checks k T id msg) → unjudged nothing ≡ unjudged (answered (refusal (table_checks k T id msg)) nothing)
 unfolding answered
-none_told k T id msg {q} e z = rw (sym e ∙ z)
+none_told k T id msg z = rw (sym z)
 
 -- What an answer of `came_out` tells.
 abbrev told : ℕ → Bool → Bool → ℕ → ℕ → Answer
@@ -69,7 +75,7 @@ complete_told (suc q) full silent w f x y e =
     let z : ◌≡◌ {A = ℕ} 0 1 = cc in
     absurd (omega arith)
 
-module _ (s : State) (n k T id : ℕ) (a : SubframeAnswer) (e : meaning_subframe a ≡ came_out s n) where
+module _ (s : State) (n k T id : ℕ) (a : Result (Option Pair) Refusal) (e : meaning_subframe a ≡ came_out s n) where
   abbrev full : Bool
   full = eqb (get_or s.counts (n - 1) 0) 15
 
@@ -81,11 +87,11 @@ module _ (s : State) (n k T id : ℕ) (a : SubframeAnswer) (e : meaning_subframe
   is_told = e
 
   -- refused for the lent bytes, the record or the satellite
-  pub complete_refused : {q : ℕ} {w : Walk} → a ≡ Refused q → w ≡ unjudged (refused q) → w ≡ walk_complete s n k T id
+  pub complete_refused : {x : Refusal} → a ≡ Err x → unjudged (refused (refusal_number x)) ≡ walk_complete s n k T id
   unfolding walk_complete
-  complete_refused {q} g h =
-      let y = refused_told (refusal (view_checks s n)) full silent s.week s.subframe q (rw g at is_told) in
-      h ∙ rw (← (stopped (view_checks s n) (table_checks k T id (message_of s)) y.0 y.1), ne_eqb q 0 y.1)
+  complete_refused {x} g =
+      let y = refused_told (refusal (view_checks s n)) full silent s.week s.subframe (refusal_number x) (rw g at is_told) in
+      rw (← (stopped (view_checks s n) (table_checks k T id (message_of s)) y.0 y.1), ne_eqb (refusal_number x) 0 y.1)
 
   -- the checks that are left
   left : refusal (view_checks s n) ≡ 0 → refusal (complete_checks s n k T id) ≡ refusal (table_checks k T id (message_of s))
@@ -100,14 +106,14 @@ module _ (s : State) (n k T id : ℕ) (a : SubframeAnswer) (e : meaning_subframe
       go zero x = rw (x, y.1)
       go (suc q) x = rw (x, eqb-suc-zero q)
 
-  pub complete_nothing : {w : Walk} → a ≡ Nothing → w ≡ unjudged (answered (refusal (table_checks k T id (message_of s))) nothing) → w ≡ walk_complete s n k T id
+  pub complete_nothing : {w : Walk} → a ≡ Ok None → w ≡ unjudged (answered (refusal (table_checks k T id (message_of s))) nothing) → w ≡ walk_complete s n k T id
   complete_nothing g h = not_complete (nothing_told (refusal (view_checks s n)) full silent s.week s.subframe (rw g at is_told)) h
 
-  pub complete_silent : {x y : ℕ} {w : Walk} → a ≡ Silent x y → w ≡ unjudged (answered (refusal (table_checks k T id (message_of s))) nothing)
+  pub complete_silent : {x y : ℕ} {w : Walk} → a ≡ Ok (Some (Silent x y)) → w ≡ unjudged (answered (refusal (table_checks k T id (message_of s))) nothing)
       → w ≡ walk_complete s n k T id
   complete_silent {x} {y} g h = not_complete (silent_told (refusal (view_checks s n)) full silent s.week s.subframe x y (rw g at is_told)) h
 
-  module _ {x y : ℕ} (g : a ≡ Complete x y) where
+  module _ {x y : ℕ} (g : a ≡ Ok (Some (Complete x y))) where
     is : (refusal (view_checks s n) ≡ 0) × (full ≡ true) × (silent ≡ false)
     is = complete_told (refusal (view_checks s n)) full silent s.week s.subframe x y (rw g at is_told)
 
@@ -132,7 +138,6 @@ module _ (s : State) (n k T id : ℕ) (a : SubframeAnswer) (e : meaning_subframe
         sym (pass_n 1 _ _ (equals (length (message 60 n s.mack)) 60 whole) (went_on (svn_checks n) (table_checks k T id (message_of s)) tt refl sender refl))
         ∙ sym (left is.0)
 
-    pub complete_walked : {b : List ℕ} {msg : ℕ} {w : Walk} → b ≡ shown s.mack (view s 60 n) → msg ≡ message_of s → w ≡ walk b k T n id msg
-        → w ≡ walk_complete s n k T id
+    pub complete_walked : {b : List ℕ} {w : Walk} → b ≡ shown s.mack (view s 60 n) → w ≡ walk b k T n id (message_of s) → w ≡ walk_complete s n k T id
     unfolding walk walk_complete
-    complete_walked eb em h = h ∙ rw (eb ∙ seen, em, same_checks, is.1, is.2)
+    complete_walked eb h = h ∙ rw (eb ∙ seen, same_checks, is.1, is.2)

@@ -5,40 +5,24 @@ use mathlib.Core.Bool.{Bool, true, false, cond, not}
 use mathlib.Core.List.{[], ◌∷◌}
 use Prim.Native.Nat.{ℕ, ◌≤◌, ◌<◌}
 use native.Mathlib.Omega.{arith}
-use lib.Dec.{leb, eqb}
+use lib.Dec.{eqb}
 use borrow.Author.Tests.{eq-eqb, ne_eqb, lt-leb, le-leb}
 use Rattle.layouts.specs.Answer.{gives, refusal, answered}
+use Rattle.std.specs.Prelude.{Result, Ok, Option}
+use Rattle.std.specs.Result.{IsOk}
 use Rattle.layouts.specs.Meaning.{meaning_number, object_number, slot_numbers, meaning_slot}
+use Rattle.layouts.specs.declared.refusal.Refusal.{Refusal}
 use Rattle.layouts.specs.Maclt.{Slot, fixed, flex, numbers, entry, entry_checks}
-use Rattle.layouts.specs.declared.answer.Number.{Number}
-use Rattle.layouts.specs.declared.answer.Number.TheVariants.{Value, Refused}
 use Rattle.layouts.specs.declared.tag_info.Adkd.TheVariants.{InavCed, InavTiming, SlowMac, Reserved}
 use Rattle.layouts.specs.declared.maclt.AuthObject.{AuthObject}
 use Rattle.layouts.specs.declared.maclt.AuthObject.TheVariants.{SelfAuth, CrossAuth}
 use Rattle.layouts.specs.declared.maclt.MacLTSlot.{MacLTSlot}
 use Rattle.layouts.specs.declared.maclt.MacLTSlot.TheVariants.{Fixed, Flex}
-use Rattle.layouts.specs.declared.maclt.MacLTSlotAnswer.{MacLTSlotAnswer}
-use Rattle.layouts.specs.declared.maclt.MacLTSlotAnswer.TheVariants.{Slot as SlotIs, Refused as SlotRefused}
 use Rattle.layouts.specs.declared.tag_info.Adkd.{Adkd}
 use Rattle.recorder.specs.Slots.{prnd_fits, slot_at, broken}
-use Rattle.recorder.specs.inner.Code.{adkd_number, slot_of, fit_number}
-use Rattle.recorder.specs.declared.slots.SlotFit.{SlotFit}
-
--- A number that is not refused: its value.
-pub value_of : (q w : ℕ) {x : Number} {v : ℕ} → q ≡ 0 → meaning_number x ≡ answered q (gives (w ∷ [])) → x ≡ Value v → v ≡ w
-unfolding answered
-value_of q w {x} {v} z e g =
-    let f : gives (v ∷ []) ≡ answered q (gives (w ∷ [])) = rw g at e in
-    let h : gives (v ∷ []) ≡ gives (w ∷ []) = rw z at f in
-    cc
-
-pub value_none : (q w : ℕ) {x : Number} {n r : ℕ} → q ≡ 0 → meaning_number x ≡ answered q (gives (w ∷ [])) → x ≡ Refused n → r ≡ w
-unfolding answered
-value_none q w {x} {n} {r} z e g =
-    let f : meaning_number (Refused n) ≡ answered q (gives (w ∷ [])) = rw g at e in
-    let h : meaning_number (Refused n) ≡ gives (w ∷ []) = rw z at f in
-    let y : ◌≡◌ {A = ℕ} 0 1 = cc in
-    absurd (omega arith)
+use Rattle.recorder.specs.inner.Code.{adkd_number, slot_of, field_or_0}
+use Rattle.recorder.specs.declared.slots.TagField.{TagField}
+use Rattle.layouts.proofs.Given.{not_refused, given_is}
 
 -- PRND against the object.
 pub self_timing : {o : AuthObject} {a : ℕ} (s p : ℕ) → o ≡ SelfAuth → a ≡ 4 → eqb p 255 ≡ prnd_fits a (object_number o) s p
@@ -53,9 +37,13 @@ pub cross_low : {o : AuthObject} (a s p : ℕ) → o ≡ CrossAuth → p < 1 →
 unfolding prnd_fits
 cross_low a s p eo l = rw (eo, lt-leb 1 p l)
 
-pub cross_some : {o : AuthObject} (a s p : ℕ) → o ≡ CrossAuth → 1 ≤ p → leb p 36 ≡ prnd_fits a (object_number o) s p
+pub cross_above : {o : AuthObject} (a s p : ℕ) → o ≡ CrossAuth → 1 ≤ p → 36 < p → false ≡ prnd_fits a (object_number o) s p
 unfolding prnd_fits
-cross_some a s p eo l = rw (eo, le-leb 1 p l)
+cross_above a s p eo l h = rw (eo, le-leb 1 p l, lt-leb p 36 h)
+
+pub cross_within : {o : AuthObject} (a s p : ℕ) → o ≡ CrossAuth → 1 ≤ p → p ≤ 36 → true ≡ prnd_fits a (object_number o) s p
+unfolding prnd_fits
+cross_within a s p eo l h = rw (eo, le-leb 1 p l, le-leb p 36 h)
 
 -- A tag at a slot.
 pub flex_fits : {x : MacLTSlot} (s a p : ℕ) → x ≡ Flex → 0 ≡ broken (slot_of x) s a p
@@ -101,23 +89,19 @@ slot_same (Fixed InavTiming o) flex e = let z : ◌≡◌ {A = ℕ} 0 1 = cc in 
 slot_same (Fixed SlowMac o) flex e = let z : ◌≡◌ {A = ℕ} 0 1 = cc in absurd (omega arith)
 slot_same (Fixed Reserved o) flex e = let z : ◌≡◌ {A = ℕ} 0 1 = cc in absurd (omega arith)
 
-module _ (id msg n : ℕ) (x : MacLTSlotAnswer) (z : refusal (entry_checks id msg n) ≡ 0) (e : meaning_slot x ≡ entry id msg n) where
-  given : meaning_slot x ≡ gives (numbers (slot_at id msg n))
-  unfolding entry answered
-  given = rw z at e
+-- What is read of a tag and of its slot, where nothing is refused.
+pub number_ok : (q w : ℕ) → q ≡ 0 → (r : Result ℕ Refusal) → meaning_number r ≡ answered q (gives (w ∷ [])) → IsOk r
+number_ok q w z r e = not_refused (λ (v : ℕ). v ∷ []) q (w ∷ []) r z e
 
-  pub slot_given : (s : MacLTSlot) → x ≡ SlotIs s → slot_of s ≡ slot_at id msg n
-  slot_given s g =
-      let f : gives (slot_numbers s) ≡ gives (numbers (slot_at id msg n)) = rw g at given in
-      let h : slot_numbers s ≡ numbers (slot_at id msg n) = cc in
-      slot_same s (slot_at id msg n) h
+module _ (id msg n : ℕ) (x : Result MacLTSlot Refusal) (e : meaning_slot x ≡ entry id msg n) where
+  pub slot_ok : refusal (entry_checks id msg n) ≡ 0 → IsOk x
+  unfolding entry
+  slot_ok z = not_refused slot_numbers (refusal (entry_checks id msg n)) (numbers (slot_at id msg n)) x z e
 
-  pub slot_none : {q r b : ℕ} → x ≡ SlotRefused q → r ≡ b
-  slot_none {q} g =
-      let f : meaning_slot (SlotRefused q) ≡ gives (numbers (slot_at id msg n)) = rw g at given in
-      let y : ◌≡◌ {A = ℕ} 0 1 = cc in
-      absurd (omega arith)
+  pub slot_given : {s : MacLTSlot} → x ≡ Ok s → slot_of s ≡ slot_at id msg n
+  unfolding entry
+  slot_given {s} g = slot_same s (slot_at id msg n) (given_is slot_numbers (refusal (entry_checks id msg n)) (numbers (slot_at id msg n)) x e g)
 
-  pub tag_fits : (s : MacLTSlot) (sender a p a' p' : ℕ) (f : SlotFit) → x ≡ SlotIs s → a ≡ a' → p ≡ p' → fit_number f ≡ broken (slot_of s) sender a p
-      → fit_number f ≡ broken (slot_at id msg n) sender a' p'
-  tag_fits s sender a p a' p' f g ea ep h = h ∙ ap (λ (t : Slot). broken t sender a p) (slot_given s g) ∙ rw (ea, ep)
+  pub tag_fits : {s : MacLTSlot} {from sender a p a' p' : ℕ} (f : Option TagField) → x ≡ Ok s → from ≡ sender → a ≡ a' → p ≡ p'
+      → field_or_0 f ≡ broken (slot_of s) from a p → field_or_0 f ≡ broken (slot_at id msg n) sender a' p'
+  tag_fits {from} {a} {p} f g es ea ep h = h ∙ ap (λ (t : Slot). broken t from a p) (slot_given g) ∙ rw (es, ea, ep)

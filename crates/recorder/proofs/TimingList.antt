@@ -9,10 +9,16 @@ use native.Mathlib.Omega.{arith}
 use lib.Dec.{eqb}
 use lib.ListN.{length, take, set, replicate, length-append}
 use borrow.Author.Tests.{eq-eqb, ne_eqb}
-use Rattle.layouts.specs.Answer.{gives, Copied}
-use Rattle.layouts.specs.Mack.{nt}
+use Rattle.std.specs.Prelude.{Result, Ok}
+use Rattle.std.specs.Result.{IsOk}
+use Rattle.layouts.specs.Answer.{gives, refusal, Copied}
+use Rattle.layouts.specs.Mack.{nt, tag_checks, AdkdNumber}
+use Rattle.layouts.specs.declared.refusal.Refusal.{Refusal}
 use Rattle.recorder.specs.Slots.{adkd_at}
 use Rattle.recorder.specs.Timing.{timing, nine, tags_listed}
+use Rattle.recorder.specs.inner.Code.{Readable}
+use Rattle.layouts.proofs.Given.{not_refused, number_is}
+use Rattle.recorder.proofs.WalkTags.{tag_readable}
 
 -- at most j of tags 1 to j
 pub timing_few : (m : List ℕ) (T j : ℕ) → length (timing m T j) ≤ j
@@ -40,6 +46,16 @@ put_more (y ∷ l) x z (suc n) j h k = ap (λ (r : List ℕ). y ∷ r) (put_more
 nine_more : (l : List ℕ) (x : ℕ) → length l < 9 → set (nine l) (length l) x ≡ nine (l ++ (x ∷ []))
 nine_more l x h = put_more l x 0 9 8 h (omega arith) ∙ ap (take 9) (sym (append_assoc l (x ∷ []) (replicate 9 0)))
 
+-- ADKD of a tag of the loop is read, and is the definition's.
+module _ (m : List ℕ) (k T : ℕ) where
+  pub adkd_read : {q n from : ℕ} → Readable m k T q → from ≡ n → 1 ≤ n → n < q → (r : Result ℕ Refusal) → AdkdNumber m k T from r → IsOk r
+  adkd_read {n} {from} w e some few r h =
+      not_refused (λ (v : ℕ). v ∷ []) (refusal (tag_checks m k T from)) (adkd_at m T from ∷ []) r
+      (ap (λ (j : ℕ). refusal (tag_checks m k T j)) e ∙ tag_readable m k T w n some few) h
+
+  pub adkd_value : {n from v : ℕ} → from ≡ n → (r : Result ℕ Refusal) → AdkdNumber m k T from r → r ≡ Ok v → v ≡ adkd_at m T n
+  adkd_value {from} e r h g = number_is (refusal (tag_checks m k T from)) (adkd_at m T from) r h g ∙ ap (adkd_at m T) e
+
 -- The list so far, before tag n.
 pub record Sofar (m : List ℕ) (T n count : ℕ) (tags : List ℕ) : Type 0 where
   pub some : 1 ≤ n
@@ -62,9 +78,9 @@ module _ {m : List ℕ} {T n count : ℕ} {tags : List ℕ} (w : Sofar m T n cou
   pub has_room : n ≤ 9 → count < 9
   has_room h = let few = timing_few m T (n - 1) in omega (arith, few, w.count_is, w.some, h)
 
-  pub listed_too : {adkd count' : ℕ} {tags' : List ℕ} → n ≤ 9 → adkd ≡ adkd_at m T n → adkd ≡ 4 → tags' ≡ set tags count n → count' ≡ count + 1
+  pub listed_too : {adkd count' at : ℕ} {tags' : List ℕ} → n ≤ 9 → adkd ≡ adkd_at m T n → adkd ≡ 4 → at ≡ count → tags' ≡ set tags at n → count' ≡ count + 1
       → Sofar m T (n + 1) count' tags'
-  listed_too {adkd} {count'} h e four et ec =
+  listed_too {adkd} {count'} {at} h e four ea et ec =
       let next : timing m T (n + 1 - 1) ≡ timing m T (n - 1) ++ (n ∷ []) =
       timing_next m T n w.some ∙ ap (λ (b : Bool). timing m T (n - 1) ++ cond b (n ∷ []) []) (eq-eqb (adkd_at m T n) 4 (sym e ∙ four)) in
       let few : length (timing m T (n - 1)) < 9 = omega (arith, has_room h, w.count_is) in
@@ -72,7 +88,7 @@ module _ {m : List ℕ} {T n count : ℕ} {tags : List ℕ} (w : Sofar m T n cou
         some = omega arith;
         count_is = omega (arith, ec, w.count_is, ap length next, length-append (timing m T (n - 1)) (n ∷ []));
         tags_is =
-            et ∙ ap (λ (l : List ℕ). set l count n) w.tags_is ∙ ap (λ (j : ℕ). set (nine (timing m T (n - 1))) j n) w.count_is
+            et ∙ ap (λ (l : List ℕ). set l at n) w.tags_is ∙ ap (λ (j : ℕ). set (nine (timing m T (n - 1))) j n) (ea ∙ w.count_is)
             ∙ nine_more (timing m T (n - 1)) n few ∙ ap nine (sym next);
       }
 

@@ -9,6 +9,7 @@ use native.Mathlib.Omega.{arith}
 use lib.Dec.{eqb}
 use lib.ListN.{length, get_or, drop, drop_of_length-le}
 use borrow.Author.Tests.{ne_eqb, lt-leb, le-ltb}
+use Rattle.std.specs.Prelude.{Option, Some, None}
 use Rattle.layouts.specs.Answer.{gives, refusal}
 use Rattle.layouts.specs.Mack.{size_checks, mack_checks, nt, tag_checks}
 use Rattle.layouts.specs.Maclt.{Slot, flex, Row, table, row_of, slots, entry_checks}
@@ -18,9 +19,7 @@ use Rattle.layouts.proofs.Layouts.{tags_at_least_four}
 use Rattle.layouts.proofs.MacltTable.{filled}
 use Rattle.recorder.specs.Slots.{adkd_at, prnd_at, broken, broken_at, walked}
 use Rattle.recorder.specs.WalkPromises.{field_number}
-use Rattle.recorder.specs.inner.Code.{Readable, fit_number}
-use Rattle.recorder.specs.declared.slots.SlotFit.{SlotFit}
-use Rattle.recorder.specs.declared.slots.SlotFit.TheVariants.{Fits, Breaks}
+use Rattle.recorder.specs.inner.Code.{Readable, Walkable, field_or_0}
 use Rattle.recorder.specs.declared.slots.TagField.{TagField}
 use Rattle.recorder.specs.declared.slots.TagField.TheVariants.{Adkd, Prnd}
 
@@ -74,6 +73,13 @@ slot_known id msg low e n some few =
     let has-slots = ne_eqb (row_of id table).nt 0 (λ z. absurd (omega (arith, z, e, few))) in
     all_pass _ (le-ltb 1 msg low, (not_None, (has-slots, (lt-leb (row_of id table).nt n (omega (arith, e, few)), tt))))
 
+pub tag_ready : (m : List ℕ) (k T id msg : ℕ) {q n from : ℕ} → Walkable m k T id msg q → from ≡ n → 1 ≤ n → n < q
+    → (refusal (tag_checks m k T from) ≡ 0) × (refusal (entry_checks id msg from) ≡ 0)
+tag_ready m k T id msg {n} w e some few = (
+  ap (λ (j : ℕ). refusal (tag_checks m k T j)) e ∙ tag_readable m k T w.0 n some few,
+  ap (λ (j : ℕ). refusal (entry_checks id msg j)) e ∙ slot_known id msg w.1 w.2 n some few,
+)
+
 -- a slot behind others
 drop_more : (ss : List Slot) (i : ℕ) → i < length ss → drop i ss ≡ get_or ss i flex ∷ drop (suc i) ss
 drop_more [] i l = absurd (not-suc-le-zero l)
@@ -99,22 +105,22 @@ module _ (m : List ℕ) (T sender id msg : ℕ) where
   abbrev pub Left : ℕ → Type 0
   Left n = walked m T sender n (drop (n - 1) (slots msg (row_of id table))) ≡ walked m T sender 1 (slots msg (row_of id table))
 
-  module _ (n : ℕ) {q : ℕ} (e : q ≡ (row_of id table).nt) (some : 1 ≤ n) (few : n < q) (left : Left n) (f : SlotFit)
-      (is : fit_number f ≡ broken_at m T sender id msg n) where
+  module _ (n : ℕ) {q : ℕ} (e : q ≡ (row_of id table).nt) (some : 1 ≤ n) (few : n < q) (left : Left n) {from : ℕ} (same : from ≡ n)
+      (f : Option TagField) (is : field_or_0 f ≡ broken_at m T sender id msg from) where
     inside : n ≤ length (slots msg (row_of id table))
     inside = let all = as_many id msg (λ z. absurd (omega (arith, z, e, few))) in omega (arith, all, e, few)
 
-    here : cond (eqb (fit_number f) 0) (walked m T sender (n + 1) (drop n (slots msg (row_of id table)))) (gives (1 ∷ n ∷ fit_number f ∷ []))
+    here : cond (eqb (field_or_0 f) 0) (walked m T sender (n + 1) (drop n (slots msg (row_of id table)))) (gives (1 ∷ n ∷ field_or_0 f ∷ []))
         ≡ walked m T sender 1 (slots msg (row_of id table))
-    here = rw is (sym (walk_at m T sender n (slots msg (row_of id table)) some inside) ∙ left)
+    here = rw (is ∙ ap (broken_at m T sender id msg) same) (sym (walk_at m T sender n (slots msg (row_of id table)) some inside) ∙ left)
 
-    pub fits_on : f ≡ Fits → Left (n + 1)
+    pub fits_on : f ≡ None → Left (n + 1)
     fits_on g =
         let h : walked m T sender (n + 1) (drop n (slots msg (row_of id table))) ≡ walked m T sender 1 (slots msg (row_of id table)) = rw g at here in
         let back : n + 1 - 1 ≡ n = omega arith in
         rw back h
 
-    pub breaks_here : (d : TagField) → f ≡ Breaks d → gives (1 ∷ n ∷ field_number d ∷ []) ≡ walked m T sender 1 (slots msg (row_of id table))
+    pub breaks_here : (d : TagField) → f ≡ Some d → gives (1 ∷ n ∷ field_number d ∷ []) ≡ walked m T sender 1 (slots msg (row_of id table))
     breaks_here d g = go d (rw g at here)
       where
         go : (d : TagField)

@@ -1,131 +1,67 @@
 // The recorder's questions: of a MACK message that it holds, and of one that the subframe collector has put together.
 ghost use Rattle.std.specs.Prelude.{◌≡◌};
-ghost use Rattle.layouts.specs.Answer.{refusal as refusal_of, answered, refused as refused_with, nothing};
-ghost use Rattle.layouts.specs.Mack.{size_checks, nt as tags_in};
-ghost use Rattle.layouts.specs.Maclt.{table, row_of};
+ghost use Rattle.layouts.specs.Answer.{refusal as refusal_of, answered, nothing};
+ghost use Rattle.layouts.specs.Refusals.{refused_by};
 ghost use Rattle.recorder.specs.Walk.{unjudged, verdict, table_checks, walk_checks};
-ghost use Rattle.recorder.specs.WalkPromises.{meaning_walk, WalkSlots, WalkComplete};
+ghost use Rattle.recorder.specs.WalkPromises.{judged_walk, meaning_complete, WalkSlots, WalkComplete};
 
-use crate::slots::SlotsAnswer;
-use crate::timing::{TimingCount, TimingTags};
+use crate::slots::Verdict;
+use crate::timing::TimingTags;
 use crate::{slots, timing};
-use layouts::answer::Number;
-use layouts::{gst, mack, maclt};
+use layouts::mack::{Mack, Sizes};
+use layouts::refusal::Refusal;
+use layouts::{gst, maclt};
 use subframes::subframe;
-use subframes::subframe::{CollectSubframe, Message, SubframeAnswer};
+use subframes::subframe::{CollectSubframe, Message, Pair};
 
 // The verdict on the slots, and beside it the tags that hold ADKD 4, whether or not the slots fit.
 #[derive(Clone, Copy)]
 pub struct Walked {
-    pub slots: SlotsAnswer,
+    pub slots: Verdict,
     pub timing: TimingTags,
 }
 
-// Both parts say the refusal, and the nine bytes are zero.
-fn refused(n: u8) -> Walked
-    ensures { meaning_walk result ≡ unjudged (refused_with n) }
+// 7 for sizes and message number, then 8 for the ID. ID and message number are no struct here: `layouts::maclt` takes them apart, and so do the callers.
+fn check_table(sizes: Sizes, maclt: u8, msg: usize) -> Result<(), Refusal>
+    ensures { refused_by result ≡ refusal_of (table_checks sizes.key_bytes sizes.tag_bits maclt msg) }
 {
-    Walked {
-        slots: SlotsAnswer::Refused(n),
-        timing: TimingTags {
-            count: TimingCount::Refused(n),
-            tags: [0; 9],
-        },
-    }
-}
-
-// The refusal number of sizes and message number, 7, then of the ID, 8; 0 for none.
-fn table_refuses(key_size_bytes: usize, tag_size_bits: usize, maclt: u8, msg: usize) -> u8
-    ensures { result ≡ refusal_of (table_checks key_size_bytes tag_size_bits maclt msg) }
-{
-    match mack::num_tags(key_size_bytes, tag_size_bits) {
-        Number::Refused(n) => {
-            return n;
-        }
-        Number::Value(_) => {}
-    }
+    sizes.num_tags()?;
     if 1 < msg {
-        return 7;
+        return Err(Refusal::Argument);
     }
-    match maclt::nt(maclt) {
-        Number::Refused(n) => n,
-        Number::Value(_) => 0,
-    }
+    maclt::nt(maclt)?;
+    Ok(())
 }
 
-// The refusal number of what is walked; 0 for none.
-fn refuses(
-    mack: &[u8],
-    key_size_bytes: usize,
-    tag_size_bits: usize,
-    sender: u8,
-    maclt: u8,
-    msg: usize,
-) -> u8
-    ensures { result ≡ refusal_of (walk_checks mack.now key_size_bytes tag_size_bits sender maclt msg) }
+// What is refused of what is walked.
+fn check(mack: Mack<'_>, sender: u8, maclt: u8, msg: usize) -> Result<(), Refusal>
+    ensures { refused_by result
+        ≡ refusal_of (walk_checks mack.entry.msg.now mack.entry.sizes.key_bytes mack.entry.sizes.tag_bits sender maclt msg) }
 {
-    if mack.len() != 60 {
-        return 1;
+    if mack.msg.len() != 60 {
+        return Err(Refusal::SliceLength);
     }
-    let refusal = gst::svn_refuses(sender as u64);
-    if refusal != 0 {
-        return refusal;
-    }
-    table_refuses(key_size_bytes, tag_size_bits, maclt, msg)
-}
-
-// nt of a message, by its sizes.
-fn message_tags(key_size_bytes: usize, tag_size_bits: usize) -> u8
-    requires { refusal_of (size_checks key_size_bytes tag_size_bits) ≡ 0 }
-    ensures { result ≡ tags_in key_size_bytes tag_size_bits }
-{
-    match mack::num_tags(key_size_bytes, tag_size_bits) {
-        Number::Refused(_) => 0,
-        Number::Value(nt) => nt as u8,
-    }
-}
-
-// nt of an ID.
-fn table_tags(maclt: u8) -> u8
-    ensures { result ≡ (row_of maclt table).nt }
-{
-    match maclt::nt(maclt) {
-        Number::Refused(_) => 0,
-        Number::Value(nt) => nt as u8,
-    }
+    gst::check_svn(u64::from(sender))?;
+    check_table(mack.sizes, maclt, msg)
 }
 
 // The verdict and the list, where nothing is refused.
-fn judge(
-    mack: &[u8],
-    key_size_bytes: usize,
-    tag_size_bits: usize,
-    sender: u8,
-    maclt: u8,
-    msg: usize,
-) -> Walked
-    requires { refusal_of (walk_checks mack.now key_size_bytes tag_size_bits sender maclt msg) ≡ 0 }
-    ensures { meaning_walk result ≡ verdict mack.now key_size_bytes tag_size_bits sender maclt msg }
+fn judge(mack: Mack<'_>, sender: u8, maclt: u8, msg: usize) -> Walked
+    requires { refusal_of (walk_checks mack.msg.now mack.sizes.key_bytes mack.sizes.tag_bits sender maclt msg) ≡ 0 }
+    ensures { judged_walk result
+        ≡ verdict mack.entry.msg.now mack.entry.sizes.key_bytes mack.entry.sizes.tag_bits sender maclt msg }
 {
-    let message = message_tags(key_size_bytes, tag_size_bits);
-    let table = table_tags(maclt);
-    let timing = timing::list(mack, key_size_bytes, tag_size_bits, message);
+    let message = mack.sizes.num_tags().unwrap() as u8;
+    let table = maclt::nt(maclt).unwrap() as u8;
+    let timing = timing::list(mack, message);
     if table != message {
         return Walked {
-            slots: SlotsAnswer::TagsDiffer { table, message },
+            slots: Verdict::TagsDiffer { table, message },
             timing,
         };
     }
     Walked {
-        slots: slots::walk_tags(
-            mack,
-            key_size_bytes,
-            tag_size_bits,
-            sender,
-            maclt,
-            msg,
-            message,
-        ),
+        slots: slots::walk_tags(mack, sender, maclt, msg, message),
         timing,
     }
 }
@@ -133,41 +69,23 @@ fn judge(
 // The first tag that breaks its slot, or that all fit, or that the table's nt and the message's differ; and the tags that hold ADKD 4, whether or not the slots
 // fit. `msg` is 0 in the first half of a minute and 1 in the second. Refuses 1 for a message of other than 60 bytes, 2 for the sender, 7 for a size that no
 // KROOT gives or a message number above 1, 8 for an ID that no table has.
-pub fn walk(
-    mack: &[u8],
-    key_size_bytes: usize,
-    tag_size_bits: usize,
-    sender: u8,
-    maclt: u8,
-    msg: usize,
-) -> Walked
-    ensures { WalkSlots mack.now key_size_bytes tag_size_bits sender maclt msg result }
+pub fn walk(mack: Mack<'_>, sender: u8, maclt: u8, msg: usize) -> Result<Walked, Refusal>
+    ensures { WalkSlots mack.entry.msg.now mack.entry.sizes.key_bytes mack.entry.sizes.tag_bits sender maclt msg result }
 {
-    let refusal = refuses(mack, key_size_bytes, tag_size_bits, sender, maclt, msg);
-    if refusal != 0 {
-        return refused(refusal);
-    }
-    judge(mack, key_size_bytes, tag_size_bits, sender, maclt, msg)
+    check(mack, sender, maclt, msg)?;
+    Ok(judge(mack, sender, maclt, msg))
 }
 
 // There is no message to judge: nothing, where sizes and ID are not refused.
-fn no_message(key_size_bytes: usize, tag_size_bits: usize, maclt: u8, msg: usize) -> Walked
-    ensures { meaning_walk result
-        ≡ unjudged (answered (refusal_of (table_checks key_size_bytes tag_size_bits maclt msg)) nothing) }
+fn no_message(sizes: Sizes, maclt: u8, msg: usize) -> Result<Option<Walked>, Refusal>
+    ensures { meaning_complete result
+        ≡ unjudged (answered (refusal_of (table_checks sizes.key_bytes sizes.tag_bits maclt msg)) nothing) }
 {
-    let refusal = table_refuses(key_size_bytes, tag_size_bits, maclt, msg);
-    if refusal != 0 {
-        return refused(refusal);
-    }
-    Walked {
-        slots: SlotsAnswer::Nothing,
-        timing: TimingTags {
-            count: TimingCount::Nothing,
-            tags: [0; 9],
-        },
-    }
+    check_table(sizes, maclt, msg)?;
+    Ok(None)
 }
 
+// The two lent slices are two parameters, as `subframe::feed` has them.
 // `walk` of the MACK message that the collector has put together of a satellite: the 60 bytes, the sender and the message number are the collector's, so that
 // no caller can mix them up. Nothing while the pair is not complete, and of a silent one. Refuses 1 for lent bytes other than 540 and 2,160, 12 for the record,
 // 2 for the satellite, 7 for a size that no KROOT gives, 8 for an ID that no table has.
@@ -176,32 +94,21 @@ pub fn walk_complete<'a>(
     hkroot: &'a [u8],
     mack: &'a [u8],
     satellite: u8,
-    key_size_bytes: usize,
-    tag_size_bits: usize,
+    sizes: Sizes,
     maclt: u8,
-) -> Walked
-    ensures { WalkComplete collector hkroot.now mack.now satellite key_size_bytes tag_size_bits maclt result }
+) -> Result<Option<Walked>, Refusal>
+    ensures { WalkComplete collector hkroot.now mack.now satellite sizes.key_bytes sizes.tag_bits maclt result }
 {
     let msg = (collector.subframe % 2) as usize;
-    match subframe::came_out(collector, hkroot, mack, satellite) {
-        SubframeAnswer::Refused(n) => refused(n),
-        SubframeAnswer::Nothing => no_message(key_size_bytes, tag_size_bits, maclt, msg),
-        SubframeAnswer::Silent { week: _, time: _ } => no_message(
-            key_size_bytes,
-            tag_size_bits,
-            maclt,
-            msg,
-        ),
-        SubframeAnswer::Complete { week: _, time: _ } => {
-            let message = subframe::view(collector, hkroot, mack, Message::Mack, satellite);
-            walk(
-                message,
-                key_size_bytes,
-                tag_size_bits,
-                satellite,
-                maclt,
-                msg,
-            )
+    match subframe::came_out(collector, hkroot, mack, satellite)? {
+        None => no_message(sizes, maclt, msg),
+        Some(Pair::Silent { week: _, time: _ }) => no_message(sizes, maclt, msg),
+        Some(Pair::Complete { week: _, time: _ }) => {
+            let message = Mack {
+                msg: subframe::view(collector, hkroot, mack, Message::Mack, satellite),
+                sizes,
+            };
+            Ok(Some(walk(message, satellite, maclt, msg)?))
         }
     }
 }

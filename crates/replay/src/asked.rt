@@ -3,7 +3,7 @@ ghost use Rattle.std.specs.Prelude.{◌≡◌, ◌≤◌, OnOk, IfOk, length};
 
 use crate::failure::Failure;
 use crate::job;
-use crate::job::Done;
+use crate::job::{Done, Room};
 use std::env::{Env, FillError};
 
 // Room for any argument that Linux on x86-64 hands over: it has at most 131,071 bytes.
@@ -16,6 +16,7 @@ fn space() -> [u8; 131072]
 // How many there are beside the program's own name.
 fn count<R: Env>(rt: &R) -> usize {
     let mut room = [0u8; 1];
+    // A loop with a call in each turn, and no chain: it is left at the first argument that is not there.
     for i in 1..usize::MAX {
         if let Err(FillError::NotPresent) = rt.arg(i, &mut room) {
             return i - 1;
@@ -35,20 +36,20 @@ fn bytes<'a, R: Env>(rt: &R, i: usize, space: &'a mut [u8]) -> Result<&'a [u8], 
 }
 
 // What three arguments ask for.
-fn three<R: Env>(rt: &R, out: &mut [u8]) -> Result<Done, Failure> {
+fn three<R: Env>(rt: &R, room: &mut Room) -> Result<Done, Failure> {
     let mut a = space();
     let satellite = bytes(rt, 1, &mut a)?;
     let mut b = space();
     let week = bytes(rt, 2, &mut b)?;
     let mut c = space();
     let time = bytes(rt, 3, &mut c)?;
-    job::begin(3, satellite, week, time, out)
+    job::begin(3, satellite, week, time, room)
 }
 
 // What the arguments ask for. Where there are not three, it does not matter what they are.
-pub(crate) fn begun<R: Env>(rt: &R, out: &mut [u8]) -> Result<Done, Failure> {
+pub(crate) fn begun<R: Env>(rt: &R, room: &mut Room) -> Result<Done, Failure> {
     match count(rt) {
-        3 => three(rt, out),
-        many => job::begin(many, &[], &[], &[], out),
+        3 => three(rt, room),
+        many => job::begin(many, &[], &[], &[], room),
     }
 }

@@ -7,20 +7,21 @@ mod job;
 mod stream;
 
 use crate::failure::Failure;
+use crate::job::Room;
 use std::env::Env;
 use std::process::ExitCode;
 
 fn run<R: Env + Input + Print>(rt: &R) -> Result<(), Failure> {
-    let mut out = [0u8; 256];
-    let begun = asked::begun(rt, &mut out)?;
-    stream::run(rt, begun, &mut out)
+    let mut room = Room::new();
+    let begun = asked::begun(rt, &mut room)?;
+    stream::run(rt, begun, &mut room)
 }
 
 fn main(rt: HostRuntime) -> ExitCode {
     match run(&rt) {
         Ok(()) => ExitCode::SUCCESS,
         Err(failure) => {
-            failure::say(&rt, failure);
+            failure::say(&rt, &failure);
             ExitCode::FAILURE
         }
     }

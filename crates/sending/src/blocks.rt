@@ -1,12 +1,11 @@
 // A message's blocks, cut and fed to a collector.
-use crate::{print, tally};
 use dsms::dsm;
-use dsms::dsm::{CollectDsm, DsmAnswer};
+use dsms::dsm::{CollectDsm, CompleteDsm};
 use layouts::dsm_header::DsmType;
+use layouts::refusal::Refusal;
 use std::io;
-use transmitter::answer::WriteAnswer;
 use transmitter::blocks;
-use transmitter::blocks::{BlockCut, BlockHeader};
+use transmitter::blocks::BlockCut;
 
 #[derive(Clone, Copy)]
 struct Fed {
@@ -14,8 +13,8 @@ struct Fed {
     pub calls: u64,
     // How many calls were answered with nothing.
     pub nothing: u64,
-    // The call that was answered with the writer's ID, type and length; 0 for none.
-    pub complete: u64,
+    // The call that was answered with the writer's ID, type and length.
+    pub complete: Option<u64>,
 }
 
 fn start(collector: CollectDsm) -> Fed {
@@ -23,86 +22,80 @@ fn start(collector: CollectDsm) -> Fed {
         collector,
         calls: 0,
         nothing: 0,
-        complete: 0,
+        complete: None,
     }
 }
 
-fn is_pkr(kind: DsmType) -> bool {
-    match kind {
-        DsmType::Kroot => false,
-        DsmType::Pkr => true,
-    }
-}
-
-// The length of what was written; 0 for a refusal.
-pub(crate) fn length(wrote: WriteAnswer) -> usize {
-    match wrote {
-        WriteAnswer::Refused(_) => 0,
-        WriteAnswer::Wrote {
-            id: _,
-            dsm_type: _,
-            bytes,
-        } => bytes,
-    }
+// The length of what was written; 0 for a refusal, of which no byte is shown and no block is fed.
+pub(crate) fn length(wrote: Result<CompleteDsm, Refusal>) -> usize {
+    wrote.map_or(0, |message| message.bytes)
 }
 
 // Whether the writer answered so.
-fn answers(wrote: WriteAnswer, id: u8, kind: DsmType, bytes: usize) -> bool {
-    match wrote {
-        WriteAnswer::Refused(_) => false,
-        WriteAnswer::Wrote {
-            id: i,
-            dsm_type: k,
-            bytes: b,
-        } => i == id && b == bytes && is_pkr(k) == is_pkr(kind),
-    }
+fn answers(wrote: Result<CompleteDsm, Refusal>, told: CompleteDsm) -> bool {
+    wrote == Ok(told)
 }
 
+// The lent bytes and the writer's answer go with the record from call to call, apart: the record is by value, the bytes are the caller's.
 // What an answer adds.
-fn with(fed: Fed, wrote: WriteAnswer, answer: DsmAnswer) -> Fed {
+fn with(
+    fed: Fed,
+    wrote: Result<CompleteDsm, Refusal>,
+    answer: Result<Option<CompleteDsm>, Refusal>,
+) -> Fed {
     let mut next = fed;
-    next.calls = tally::more(fed.calls);
+    next.calls = fed.calls.saturating_add(1);
     match answer {
-        DsmAnswer::Refused(_) => next,
-        DsmAnswer::Nothing => {
-            next.nothing = tally::more(fed.nothing);
-            next
-        }
-        DsmAnswer::Complete {
-            id,
-            dsm_type,
-            bytes,
-        } => {
-            if answers(wrote, id, dsm_type, bytes) {
-                next.complete = next.calls;
+        Err(_) => {}
+        Ok(None) => next.nothing = fed.nothing.saturating_add(1),
+        Ok(Some(told)) => {
+            if answers(wrote, told) {
+                next.complete = Some(next.calls);
             }
-            next
         }
     }
+    next
 }
 
-fn fed_block(fed: Fed, lent: &mut [u8], wrote: WriteAnswer, header: u8, block: &[u8]) -> Fed {
+fn fed_block(
+    fed: Fed,
+    lent: &mut [u8],
+    wrote: Result<CompleteDsm, Refusal>,
+    header: u8,
+    block: &[u8],
+) -> Fed {
     let collector = fed.collector;
     let done = dsm::feed(collector, lent, header, block);
-    let collector = done.collector;
-    let answer = done.answer;
     let mut next = fed;
-    next.collector = collector;
-    with(next, wrote, answer)
+    next.collector = done.collector;
+    with(next, wrote, done.answer)
 }
 
 // A block that was refused is not fed.
-fn fed_cut(fed: Fed, lent: &mut [u8], wrote: WriteAnswer, cut: BlockCut) -> Fed {
-    let answer = cut.answer;
-    let block = cut.bytes;
-    match answer {
-        BlockHeader::Refused(_) => fed,
-        BlockHeader::Byte(header) => fed_block(fed, lent, wrote, header, &block),
+fn fed_cut(
+    fed: Fed,
+    lent: &mut [u8],
+    wrote: Result<CompleteDsm, Refusal>,
+    cut: Result<BlockCut, Refusal>,
+) -> Fed {
+    match cut {
+        Err(_) => fed,
+        Ok(cut) => {
+            let block = cut.bytes;
+            fed_block(fed, lent, wrote, cut.header, &block)
+        }
     }
 }
 
 // Block `n`; block 5, which every message has, comes twice.
-fn turn(fed: Fed, lent: &mut [u8], sent: &[u8], wrote: WriteAnswer, id: u64, n: u64) -> Fed {
+fn turn(
+    fed: Fed,
+    lent: &mut [u8],
+    sent: &[u8],
+    wrote: Result<CompleteDsm, Refusal>,
+    id: u64,
+    n: u64,
+) -> Fed {
     let fed = fed_cut(fed, lent, wrote, blocks::block(sent, id, n));
     if n == 5 {
         return fed_cut(fed, lent, wrote, blocks::block(sent, id, n));
@@ -110,12 +103,16 @@ fn turn(fed: Fed, lent: &mut [u8], sent: &[u8], wrote: WriteAnswer, id: u64, n: 
     fed
 }
 
-// All blocks of what was written, the last one first.
-fn feed(collector: CollectDsm, lent: &mut [u8], sent: &[u8], wrote: WriteAnswer, id: u64) -> Fed {
+// All blocks of what was written, the last one first: a loop with calls that change the lent bytes.
+fn feed(
+    collector: CollectDsm,
+    lent: &mut [u8],
+    sent: &[u8],
+    wrote: Result<CompleteDsm, Refusal>,
+    id: u64,
+) -> Fed {
     let mut fed = start(collector);
-    let mut n = length(wrote) as u64 / 13;
-    while 0 < n {
-        n -= 1;
+    for n in (0..length(wrote) as u64 / 13).rev() {
         fed = turn(fed, lent, sent, wrote, id, n);
     }
     fed
@@ -127,11 +124,11 @@ pub(crate) fn told<R: Print>(
     collector: CollectDsm,
     lent: &mut [u8],
     sent: &[u8],
-    wrote: WriteAnswer,
+    wrote: Result<CompleteDsm, Refusal>,
     id: u64,
 ) -> io::Result<CollectDsm> {
     let fed = feed(collector, lent, sent, wrote, id);
-    print::number(rt, b", nothing ", fed.nothing)?;
-    print::number(rt, b" times, complete at call ", fed.complete)?;
+    let call = fed.complete.unwrap_or(0);
+    print!(rt; ", nothing {} times, complete at call {call}", fed.nothing)?;
     Ok(fed.collector)
 }

@@ -1,5 +1,4 @@
 // What the messages here are made of: plain, but no two fields alike.
-use layouts::numbers;
 use transmitter::kroot::KrootValues;
 use transmitter::pkr::PkrValues;
 
@@ -8,27 +7,17 @@ pub(crate) const BEFORE: [u8; 208] = [170; 208];
 
 // Bytes that rise by one: as many as the longest part has.
 pub(crate) fn rising(first: u8) -> [u8; 132] {
-    let mut bytes = [0u8; 132];
-    let mut b = first;
-    let mut i = 0;
-    while i < 132 {
-        bytes[i] = b;
-        b = std::num::wrapping_add_u8(b, 1);
-        i += 1;
-    }
-    bytes
+    std::array::from_fn(|i| first.wrapping_add(i as u8))
 }
 
 // The first so many of the bytes, or all where there are fewer.
 pub(crate) fn first(bytes: &[u8], many: usize) -> &[u8] {
-    let n = numbers::smaller(many, bytes.len());
-    &bytes[0..n]
+    &bytes[..many.min(bytes.len())]
 }
 
 // The bytes behind the first so many.
 pub(crate) fn behind(bytes: &[u8], many: usize) -> &[u8] {
-    let n = numbers::smaller(many, bytes.len());
-    &bytes[n..]
+    &bytes[many.min(bytes.len())..]
 }
 
 // What TS 9 stands for.

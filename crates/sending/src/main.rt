@@ -12,6 +12,7 @@ mod kroot;
 mod pkr;
 mod print;
 mod published;
+mod refused;
 mod refused_blocks;
 mod refused_kroot;
 mod refused_pkr;

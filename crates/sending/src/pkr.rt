@@ -4,75 +4,69 @@ use dsms::dsm;
 use dsms::dsm::CollectDsm;
 use layouts::dsm_pkr;
 use std::io;
-use texts::put;
 use transmitter::pkr;
-use transmitter::pkr::{PkrRead, PkrValues};
+use transmitter::pkr::PkrValues;
 
 // How many fields the readers read as they were given. Two of them are what the codes stand for.
-fn fields(msg: &[u8], v: PkrValues, key: usize) -> u64 {
-    let n = tally::number(0, dsm_pkr::number_of_blocks(msg), msg.len() as u64 / 13);
-    let n = tally::number(n, dsm_pkr::message_id(msg), v.mid);
-    let n = tally::number(n, dsm_pkr::new_public_key_type_number(msg), v.npkt);
-    let n = tally::number(n, dsm_pkr::new_public_key_id(msg), v.npkid);
-    tally::number(n, dsm_pkr::key_size(msg), key as u64)
+fn fields(msg: &[u8], v: PkrValues, key: usize) -> usize {
+    tally::held(&[
+        tally::is(dsm_pkr::number_of_blocks(msg), msg.len() as u64 / 13),
+        tally::is(dsm_pkr::message_id(msg), v.mid),
+        tally::is(dsm_pkr::new_public_key_type_number(msg), v.npkt),
+        tally::is(dsm_pkr::new_public_key_id(msg), v.npkid),
+        tally::is(dsm_pkr::key_size(msg), key as u64),
+    ])
 }
 
-// How many raw numbers are as they were given.
-fn numbers(msg: &[u8], v: PkrValues) -> u64 {
-    match pkr::pkr_values(msg) {
-        PkrRead::Refused(_) => 0,
-        PkrRead::Values(read) => {
-            let n = tally::same(0, read.nb_dp, v.nb_dp);
-            let n = tally::same(n, read.mid, v.mid);
-            let n = tally::same(n, read.npkt, v.npkt);
-            tally::same(n, read.npkid, v.npkid)
-        }
-    }
+// How many raw numbers are as they were given: counted, as in `kroot`.
+fn numbers(msg: &[u8], v: PkrValues) -> usize {
+    pkr::pkr_values(msg).map_or(0, |read| {
+        tally::held(&[
+            read.nb_dp == v.nb_dp,
+            read.mid == v.mid,
+            read.npkt == v.npkt,
+            read.npkid == v.npkid,
+        ])
+    })
 }
 
-// A tree node goes to its place among the four.
-fn put_node(nodes: &mut [u8], msg: &[u8], n: usize, at: usize) {
-    let node = dsm_pkr::intermediate_tree_node(msg, n);
-    let bytes = node.bytes;
-    put::words(nodes, at, &bytes);
-}
-
-// The four tree nodes, as the reader shows them.
+// The four tree nodes, as the reader shows them; zeros where it shows none, which are not those that were given.
 fn nodes(msg: &[u8]) -> [u8; 128] {
     let mut nodes = [0u8; 128];
-    put_node(&mut nodes, msg, 0, 0);
-    put_node(&mut nodes, msg, 1, 32);
-    put_node(&mut nodes, msg, 2, 64);
-    put_node(&mut nodes, msg, 3, 96);
+    // by number: the reader is asked by it
+    for n in 0..4 {
+        if let Ok(node) = dsm_pkr::intermediate_tree_node(msg, n) {
+            nodes[32 * n..32 * n + 32].copy_from_slice(&node.bytes);
+        }
+    }
     nodes
 }
 
 // How many parts the readers show as they were given.
-fn parts(msg: &[u8], four: &[u8], key: &[u8], padding: &[u8]) -> u64 {
-    let read = nodes(msg);
-    let n = tally::bytes(0, &read, four);
-    let n = tally::bytes(n, dsm_pkr::new_public_key(msg), key);
-    tally::bytes(n, dsm_pkr::padding(msg), padding)
+fn parts(msg: &[u8], four: &[u8], key: &[u8], padding: &[u8]) -> usize {
+    tally::held(&[
+        check::same(&nodes(msg), four),
+        check::same(dsm_pkr::new_public_key(msg), key),
+        check::same(dsm_pkr::padding(msg), padding),
+    ])
 }
 
-// Whether writing what is read of the message makes the same of the lent bytes.
+// Whether writing what is read of the message makes the same of the lent bytes. `kroot` says why there are two.
 fn is_again(msg: &[u8], id: u64, sent: &[u8]) -> bool {
     let mut lent = contents::BEFORE;
     let four = nodes(msg);
-    match pkr::pkr_values(msg) {
-        PkrRead::Refused(_) => false,
-        PkrRead::Values(v) => {
-            pkr::write_pkr(
-                &mut lent,
-                id,
-                v,
-                &four,
-                dsm_pkr::new_public_key(msg),
-                dsm_pkr::padding(msg),
-            );
-            check::same(&lent, sent)
-        }
-    }
+    let Ok(v) = pkr::pkr_values(msg) else {
+        return false;
+    };
+    let wrote = pkr::write_pkr(
+        &mut lent,
+        id,
+        v,
+        &four,
+        dsm_pkr::new_public_key(msg),
+        dsm_pkr::padding(msg),
+    );
+    wrote.is_ok() && check::same(&lent, sent)
 }
 
 fn read<R: Print>(

@@ -1,52 +1,31 @@
 // What the program writes.
 use crate::contents;
+use dsms::dsm::CompleteDsm;
+use layouts::refusal::Refusal;
 use std::io;
-use std::io::Write;
-use transmitter::answer::WriteAnswer;
 
-pub(crate) fn text<R: Print>(rt: &R, words: &[u8]) -> io::Result<()> {
-    io::writer(rt).write_all(words)
-}
-
-pub(crate) fn number<R: Print>(rt: &R, words: &[u8], n: u64) -> io::Result<()> {
-    text(rt, words)?;
-    print!(rt; "{n}")?;
-    Ok(())
-}
-
-pub(crate) fn held<R: Print>(rt: &R, ok: bool, words: &[u8], otherwise: &[u8]) -> io::Result<()> {
-    if ok {
-        text(rt, words)?;
-    } else {
-        text(rt, otherwise)?;
-    }
-    Ok(())
+pub(crate) fn held<R: Print>(rt: &R, ok: bool, words: &str, otherwise: &str) -> io::Result<()> {
+    print!(rt; "{}", if ok { words } else { otherwise })
 }
 
 // What the writer answered.
-pub(crate) fn wrote<R: Print>(rt: &R, answer: WriteAnswer) -> io::Result<()> {
+pub(crate) fn wrote<R: Print>(rt: &R, answer: Result<CompleteDsm, Refusal>) -> io::Result<()> {
     match answer {
-        WriteAnswer::Refused(n) => number(rt, b": refused ", n as u64)?,
-        WriteAnswer::Wrote {
-            id: _,
-            dsm_type: _,
-            bytes,
-        } => {
-            number(rt, b": wrote ", bytes as u64)?;
-            number(rt, b" bytes, ", bytes as u64 / 13)?;
-            text(rt, b" blocks")?;
+        Err(e) => print!(rt; ": refused {}", e.number()),
+        Ok(CompleteDsm { bytes, .. }) => {
+            print!(rt; ": wrote {bytes} bytes, {} blocks", bytes / 13)
         }
     }
-    Ok(())
 }
 
 // How many fields, raw numbers and parts were read as they were given.
-pub(crate) fn read<R: Print>(rt: &R, fields: u64, numbers: u64, parts: u64) -> io::Result<()> {
-    number(rt, b", read ", fields)?;
-    number(rt, b" fields ", numbers)?;
-    number(rt, b" numbers ", parts)?;
-    text(rt, b" parts")?;
-    Ok(())
+pub(crate) fn read<R: Print>(
+    rt: &R,
+    fields: usize,
+    numbers: usize,
+    parts: usize,
+) -> io::Result<()> {
+    print!(rt; ", read {fields} fields {numbers} numbers {parts} parts")
 }
 
 // Whether the lent bytes from there on are as they were before anything was written.
@@ -65,15 +44,15 @@ pub(crate) fn end<R: Print>(
     many: usize,
 ) -> io::Result<()> {
     let is_same = check::same(shown, contents::first(sent, many));
-    held(rt, is_same, b", same bytes", b", other bytes")?;
-    held(rt, is_again, b", same again, ", b", other again, ")?;
+    held(rt, is_same, ", same bytes", ", other bytes")?;
+    held(rt, is_again, ", same again, ", ", other again, ")?;
     let rest = contents::behind(sent, many);
-    number(rt, b"", rest.len() as u64)?;
+    print!(rt; "{}", rest.len())?;
     held(
         rt,
         is_kept(sent, many),
-        b" behind kept\n",
-        b" behind changed\n",
+        " behind kept\n",
+        " behind changed\n",
     )?;
     Ok(())
 }
@@ -81,12 +60,12 @@ pub(crate) fn end<R: Print>(
 // A name, what the writer answered, and whether the lent bytes are as they were.
 pub(crate) fn refused<R: Print>(
     rt: &R,
-    name: &[u8],
-    answer: WriteAnswer,
+    name: &str,
+    answer: Result<CompleteDsm, Refusal>,
     lent: &[u8],
 ) -> io::Result<()> {
-    text(rt, name)?;
+    print!(rt; "{name}")?;
     wrote(rt, answer)?;
-    held(rt, is_kept(lent, 0), b", nothing changed\n", b", changed\n")?;
+    held(rt, is_kept(lent, 0), ", nothing changed\n", ", changed\n")?;
     Ok(())
 }

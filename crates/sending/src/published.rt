@@ -1,9 +1,11 @@
 // A.7 of the annex of the OSNMA Receiver Guidelines v1.3: the values of a DSM-PKR message. NB_DP 7 and the padding are ours.
+ghost use Rattle.std.specs.Prelude.{◌≤◌};
+
 use crate::{contents, pkr, print};
 use dsms::dsm;
 use layouts::dsm_pkr;
 use std::io;
-use texts::put::End;
+use std::io::Write;
 use texts::{hexadecimal, put};
 use transmitter::pkr::PkrValues;
 
@@ -22,18 +24,13 @@ const PADDING: [u8; 12] = *b"A1B2C3D4E5F6";
 fn leaf<R: Print>(rt: &R, msg: &[u8]) -> io::Result<()> {
     let bytes = dsm_pkr::merkle_tree_leaf(msg);
     let mut out = [0u8; 160];
-    print::text(rt, b"leaf ")?;
+    print!(rt; "leaf ")?;
     match put::hexadecimal(&mut out, 0, bytes) {
-        End::Refused(n) => print::number(rt, b"refused ", n as u64)?,
-        End::At(n) => print::text(rt, contents::first(&out, n))?,
+        Err(e) => print!(rt; "refused {}", e.number())?,
+        Ok(n) => io::writer(rt).write_all(contents::first(&out, n))?,
     }
     let is_published = hexadecimal::spells(&LEAF, bytes);
-    print::held(
-        rt,
-        is_published,
-        b", as published\n",
-        b", not as published\n",
-    )?;
+    print::held(rt, is_published, ", as published\n", ", not as published\n")?;
     Ok(())
 }
 
@@ -47,19 +44,24 @@ fn sent<R: Print>(rt: &R, nodes: &[u8], key: &[u8], padding: &[u8]) -> io::Resul
     };
     let mut zeros = [0u8; 208];
     let lent: &mut [u8] = &mut zeros;
-    print::text(rt, b"published PKR id 12")?;
+    print!(rt; "published PKR id 12")?;
     let collector = pkr::sent(rt, lent, 12, v, nodes, key, padding)?;
     leaf(rt, dsm::view(collector, lent))?;
     Ok(())
 }
 
+// The bytes that a text spells; zeros where it spells none, which the line then shows to be others.
+fn spelt<const N: usize>(text: &[u8]) -> [u8; N]
+    requires { N ≤ 208 }
+{
+    let mut bytes = [0u8; N];
+    let _ = hexadecimal::read(&mut bytes, 0, text);
+    bytes
+}
+
 pub(crate) fn all<R: Print>(rt: &R) -> io::Result<()> {
-    let mut nodes = [0u8; 128];
-    let mut key = [0u8; 33];
-    let mut padding = [0u8; 6];
-    hexadecimal::read(&mut nodes, 0, &NODES);
-    hexadecimal::read(&mut key, 0, &KEY);
-    hexadecimal::read(&mut padding, 0, &PADDING);
-    sent(rt, &nodes, &key, &padding)?;
-    Ok(())
+    let nodes: [u8; 128] = spelt(&NODES);
+    let key: [u8; 33] = spelt(&KEY);
+    let padding: [u8; 6] = spelt(&PADDING);
+    sent(rt, &nodes, &key, &padding)
 }

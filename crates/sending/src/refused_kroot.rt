@@ -1,91 +1,53 @@
 // What the writer of KROOT messages refuses, each with one fault but for the order.
-use crate::{contents, print};
+use crate::{contents, refused};
 use std::io;
 use transmitter::kroot;
-use transmitter::kroot::{KrootRead, KrootValues};
+use transmitter::kroot::KrootValues;
 
 // A message of that many bytes of key, signature and padding.
-fn tried<R: Print>(
-    rt: &R,
-    lent: &mut [u8],
-    name: &[u8],
-    id: u64,
-    v: KrootValues,
-    key: usize,
-    signature: usize,
-    padding: usize,
-) -> io::Result<()> {
-    let bytes = contents::rising(1);
-    let answer = kroot::write_kroot(
-        lent,
-        id,
-        v,
-        contents::first(&bytes, key),
-        contents::first(&bytes, signature),
-        contents::first(&bytes, padding),
-    );
-    print::refused(rt, name, answer, lent)?;
-    Ok(())
-}
-
 fn one<R: Print>(
     rt: &R,
-    name: &[u8],
+    name: &str,
     id: u64,
     v: KrootValues,
-    key: usize,
-    signature: usize,
-    padding: usize,
+    lengths: [usize; 3],
 ) -> io::Result<()> {
-    let mut lent = contents::BEFORE;
-    tried(rt, &mut lent, name, id, v, key, signature, padding)?;
-    Ok(())
-}
-
-fn lent_207<R: Print>(rt: &R) -> io::Result<()> {
-    let mut lent = [170u8; 207];
-    let v = contents::kroot(2, 4);
-    tried(rt, &mut lent, b"KROOT 207 lent bytes", 4, v, 16, 64, 11)?;
-    Ok(())
+    refused::one(rt, kroot::write_kroot, name, id, v, lengths)
 }
 
 fn values<R: Print>(rt: &R) -> io::Result<()> {
     let mut week = contents::kroot(2, 4);
     week.wn_k = 4096;
-    one(rt, b"KROOT week 4096", 4, week, 16, 64, 11)?;
+    one(rt, "KROOT week 4096", 4, week, [16, 64, 11])?;
     let mut hash = contents::kroot(2, 4);
     hash.hf = 4;
-    one(rt, b"KROOT hash function 4", 4, hash, 16, 64, 11)?;
-    one(rt, b"KROOT id 12", 12, contents::kroot(2, 4), 16, 64, 11)?;
-    one(rt, b"KROOT count 9", 4, contents::kroot(9, 4), 16, 64, 11)?;
+    one(rt, "KROOT hash function 4", 4, hash, [16, 64, 11])?;
+    one(rt, "KROOT id 12", 12, contents::kroot(2, 4), [16, 64, 11])?;
+    one(rt, "KROOT count 9", 4, contents::kroot(9, 4), [16, 64, 11])?;
     one(
         rt,
-        b"KROOT key size 9",
+        "KROOT key size 9",
         4,
         contents::kroot(2, 9),
-        16,
-        64,
-        11,
+        [16, 64, 11],
     )?;
     let mut tags = contents::kroot(2, 4);
     tags.ts = 4;
-    one(rt, b"KROOT tag size 4", 4, tags, 16, 64, 11)?;
+    one(rt, "KROOT tag size 4", 4, tags, [16, 64, 11])?;
     Ok(())
 }
 
 fn lengths<R: Print>(rt: &R) -> io::Result<()> {
     let v = contents::kroot(2, 4);
-    one(rt, b"KROOT key of 15 bytes for 16", 4, v, 15, 64, 12)?;
-    one(rt, b"KROOT padding of 10 bytes for 11", 4, v, 16, 64, 10)?;
+    one(rt, "KROOT key of 15 bytes for 16", 4, v, [15, 64, 12])?;
+    one(rt, "KROOT padding of 10 bytes for 11", 4, v, [16, 64, 10])?;
     let short_key = contents::kroot(2, 2);
     one(
         rt,
-        b"KROOT padding of 13 bytes, full",
+        "KROOT padding of 13 bytes, full",
         4,
         short_key,
-        14,
-        64,
-        13,
+        [14, 64, 13],
     )?;
     Ok(())
 }
@@ -96,50 +58,44 @@ fn order<R: Print>(rt: &R) -> io::Result<()> {
     v.wn_k = 4096;
     one(
         rt,
-        b"KROOT signature, week, count and key",
+        "KROOT signature, week, count and key",
         4,
         v,
-        15,
-        65,
-        11,
+        [15, 65, 11],
     )?;
-    one(rt, b"KROOT week, count and key", 4, v, 15, 64, 11)?;
+    one(rt, "KROOT week, count and key", 4, v, [15, 64, 11])?;
     one(
         rt,
-        b"KROOT count and key",
+        "KROOT count and key",
         4,
         contents::kroot(9, 4),
-        15,
-        64,
-        11,
+        [15, 64, 11],
     )?;
-    one(rt, b"KROOT key", 4, contents::kroot(2, 4), 15, 64, 11)?;
+    one(rt, "KROOT key", 4, contents::kroot(2, 4), [15, 64, 11])?;
     Ok(())
 }
 
 // The raw numbers of a message's first bytes; alpha ends with the 13th.
 fn numbers<R: Print>(rt: &R, many: usize) -> io::Result<()> {
-    let bytes = contents::rising(1);
-    print::number(rt, b"KROOT numbers of ", many as u64)?;
-    match kroot::kroot_values(contents::first(&bytes, many)) {
-        KrootRead::Refused(n) => print::number(rt, b" bytes: refused ", n as u64)?,
-        KrootRead::Values(_) => print::text(rt, b" bytes: read")?,
-    }
-    print::text(rt, b"\n")?;
-    Ok(())
+    refused::numbers(rt, "KROOT", many, kroot::kroot_values)
 }
 
 pub(crate) fn all<R: Print>(rt: &R) -> io::Result<()> {
-    one(rt, b"KROOT", 4, contents::kroot(2, 4), 16, 64, 11)?;
-    lent_207(rt)?;
-    one(
+    one(rt, "KROOT", 4, contents::kroot(2, 4), [16, 64, 11])?;
+    refused::lent_207(
         rt,
-        b"KROOT signature of 65 bytes",
+        kroot::write_kroot,
+        "KROOT 207 lent bytes",
         4,
         contents::kroot(2, 4),
-        16,
-        65,
-        10,
+        [16, 64, 11],
+    )?;
+    one(
+        rt,
+        "KROOT signature of 65 bytes",
+        4,
+        contents::kroot(2, 4),
+        [16, 65, 10],
     )?;
     values(rt)?;
     lengths(rt)?;

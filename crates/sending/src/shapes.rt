@@ -1,7 +1,8 @@
 // Every shape that a message can have, one line each: the padding is what is left of the last block.
-use crate::{contents, kroot, pkr, print};
+use crate::{contents, kroot, pkr};
 use std::io;
 
+// A line of each kind: the two have other parts, and are handed to other functions.
 fn one_kroot<R: Print>(
     rt: &R,
     id: u64,
@@ -11,10 +12,7 @@ fn one_kroot<R: Print>(
     signature: usize,
     padding: usize,
 ) -> io::Result<()> {
-    print::number(rt, b"KROOT id ", id)?;
-    print::number(rt, b" key ", key as u64)?;
-    print::number(rt, b" signature ", signature as u64)?;
-    print::number(rt, b" padding ", padding as u64)?;
+    print!(rt; "KROOT id {id} key {key} signature {signature} padding {padding}")?;
     let keys = contents::rising(1);
     let signatures = contents::rising(51);
     let paddings = contents::rising(201);
@@ -37,10 +35,7 @@ fn one_pkr<R: Print>(
     key: usize,
     padding: usize,
 ) -> io::Result<()> {
-    print::number(rt, b"PKR id ", id)?;
-    print::number(rt, b" type ", npkt)?;
-    print::number(rt, b" key ", key as u64)?;
-    print::number(rt, b" padding ", padding as u64)?;
+    print!(rt; "PKR id {id} type {npkt} key {key} padding {padding}")?;
     let nodes = contents::rising(101);
     let keys = contents::rising(1);
     let paddings = contents::rising(201);

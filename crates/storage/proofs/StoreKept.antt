@@ -10,7 +10,7 @@ use lib.Dec.{ltb, eqb}
 use borrow.Author.Tests.{eq-eqb, eqb-true, eqb-false, ltb-true, ltb-false, not-true, not-false}
 use Rattle.layouts.proofs.Timed.{satellite_fits, fits_all}
 use Rattle.layouts.specs.Answer.{gives}
-use Rattle.storage.specs.Store.{Storage, State, Call, first, entry, is_time, has_time, next_place, moves, place_for, number_for, place_of}
+use Rattle.storage.specs.Store.{Storage, State, Call, first, entry, is_time, has_time, next_place, moves, place_of}
 use Rattle.layouts.specs.Lists.{put}
 use Rattle.storage.specs.Store.{number_of, stored, reached, first_of, get}
 use Rattle.storage.specs.StoreKeeps.{new_store, next, after, entry_of, first_byte, at_time, reached_by, moves_on, bytes_at, is_stored, empties, lasts, Keeps}
@@ -19,7 +19,7 @@ use Rattle.storage.proofs.Bytes.{put_long, put_before, put_behind, part_put, par
 use Rattle.storage.proofs.Searches.{and_left, and_right, and_both, first_is, first_before}
 use Rattle.storage.proofs.StoreRecord.{room, legal_at_lem, place_few}
 use Rattle.storage.specs.inner.Places.{sent_by}
-use Rattle.storage.proofs.Stored.{record_on, Fine, find_at, get_there}
+use Rattle.storage.proofs.Stored.{record_on, Fine, find_at, moved_place, same_place, same_number, get_there}
 use Rattle.storage.proofs.StoreSound.{apart, Sound, new_sound, other_count, other_satellite, other_status, other_time, own_time, own_count}
 use Rattle.storage.proofs.StoreSound.{own_satellite, own_status, state_stored, state_refused, fine_of, fits, store_sound, after_sound}
 
@@ -170,20 +170,7 @@ left_not : (a b : Bool) → a ≡ true → (a && not b) ≡ false → b ≡ true
 left_not true b e f = not-false b f
 left_not false b e f = let z : ◌≡◌ {A = ℕ} 0 1 = cc in absurd (omega arith)
 
--- where a message goes, by whether the ring moves on
 module _ (times : ℕ) (o : Storage) (week time : ℕ) where
-  moved_place : moves o week time ≡ true → place_for times o week time ≡ next_place times o.current
-  unfolding place_for
-  moved_place e = rw e
-
-  same_place : moves o week time ≡ false → place_for times o week time ≡ o.current
-  unfolding place_for
-  same_place e = rw e
-
-  same_number : moves o week time ≡ false → number_for o week time ≡ get_or o.counts o.current 0
-  unfolding number_for
-  same_number e = rw e
-
   -- a place that has a time and is not left has the call's
   current_time : moves o week time ≡ false → get_or o.timed o.current false ≡ true → has_time o week time o.current ≡ true
   current_time e t = left_not (get_or o.timed o.current false) (has_time o week time o.current) t e
@@ -292,7 +279,7 @@ module _ (messages times : ℕ) (s : State) (p j : ℕ) (c : Call) (hp : p < tim
       let checks = record_on messages times s.storage c.asked (sym z.is_legal) refl fine in
       sym
       (ap (λ (x : ℕ). gives (60 * entry messages p j ∷ x ∷ [])) (sym h.status_is)
-      ∙ get_there messages times s.storage c.asked checks refl (sym r) hp here)
+      ∙ get_there messages times s.storage c.asked checks (sym r) hp here)
 
 pub store_finds : StoreFinds
 store_finds messages times pos some memory l before c cs s p j es ep ej e g k =

@@ -1,99 +1,54 @@
 -- Laws of the MACK store's record: what is in range, the ring, and the loops over places and messages.
 -- Assumes nothing.
-use Prim.Native.Nat.{ℕ, ◌+◌, ◌-◌, ◌*◌, ◌≤◌, ◌<◌}
+use Prim.Native.Nat.{ℕ, ◌+◌, ◌*◌, ◌≤◌, ◌<◌}
 use native.Mathlib.Nat.{mul-suc, mul-le-mul_left}
-use native.Mathlib.Numerals.{add-one}
 use native.Mathlib.Omega.{arith}
-use mathlib.Core.Path.{◌≡◌, refl, sym, ◌∙◌}
+use mathlib.Core.Path.{◌≡◌, refl, sym, ap, ◌∙◌}
 use mathlib.Core.List.{List}
-use mathlib.Core.Bool.{Bool, true, false, cond, not, ◌&&◌}
-use lib.ListN.{get_or}
+use mathlib.Core.Bool.{Bool, true, false, cond, ◌&&◌}
+use lib.ListN.{length, get_or, get_or-map}
 use lib.Dec.{leb, ltb, eqb}
-use borrow.Author.Tests.{le-leb, lt-leb, le-ltb, lt-ltb, eq-eqb, ne_eqb, eqb-true, eqb-false, leb-true, ltb-true, not-true, not-false}
+use borrow.Author.Tests.{le-ltb, lt-ltb, eqb-true, eqb-false, leb-true, ltb-true}
 use Rattle.layouts.specs.Lists.{all}
-use Rattle.storage.specs.Store.{Storage, first, legal_entry, legal_time, legal_entries, legal_place, legal, is_time, next_place}
-use Rattle.storage.specs.inner.Places.{time_is, sent_by}
-use Rattle.storage.proofs.Searches.{all_more, all_not, all_done, first_here, first_later, first_none, and_left, and_right, all_at}
+use Rattle.storage.specs.Store.{Storage, legal_entry, legal_time, legal_entries, legal_place, legal, is_time, has_time, next_place, reached}
+use Rattle.std.specs.Prelude.{Option, Some, None}
+use Rattle.std.specs.Option.{MatchOption}
+use Rattle.storage.specs.declared.mack_storage.Place.{Place}
+use Rattle.storage.specs.inner.Places.{IsPlace, Reaches, nowhere, nth}
+use Rattle.storage.specs.StorePromises.{storage_of}
+use Rattle.storage.specs.declared.mack_storage.MackStorage.{MackStorage}
+use Rattle.std.specs.List.{AllWithin, HoldsAt, fold, zip}
+use Rattle.std.proofs.lemmas.List.{take_all}
+use Rattle.std.proofs.lemmas.Slice.Zip.{length-zip, get_or-zip}
+use Rattle.storage.proofs.Bytes.{part, part_long, part_byte}
+use Rattle.storage.proofs.Searches.{and_left, and_right, and_first, and_only, all_at, all_same, folded, first_is, first_past}
 
--- A message's satellite and status.
-module _ (satellite status : ℕ) where
-  pub entry_low : satellite < 1 → false ≡ legal_entry satellite status
-  unfolding legal_entry
-  entry_low h = rw (lt-leb 1 satellite h)
-
-  pub entry_high : 1 ≤ satellite → 36 < satellite → false ≡ legal_entry satellite status
-  unfolding legal_entry
-  entry_high g h = rw (le-leb 1 satellite g, lt-leb satellite 36 h)
-
-  pub entry_status : 1 ≤ satellite → satellite ≤ 36 → leb status 3 ≡ legal_entry satellite status
-  unfolding legal_entry
-  entry_status g h = rw (le-leb 1 satellite g, le-leb satellite 36 h)
-
--- A place's time and count.
-module _ (messages : ℕ) (timed : Bool) (week tow count : ℕ) where
-  pub count_high : messages < count → false ≡ legal_time messages timed week tow count
-  unfolding legal_time
-  count_high h = rw (lt-leb count messages h)
-
-  module _ (h : count ≤ messages) where
-    pub untimed_count : not timed ≡ true → eqb count 0 ≡ legal_time messages timed week tow count
-    unfolding legal_time
-    untimed_count e = rw (le-leb count messages h, not-true timed e)
-
-    module _ (e : not timed ≡ false) where
-      pub week_off : 4095 < week → false ≡ legal_time messages timed week tow count
-      unfolding legal_time
-      week_off g = rw (le-leb count messages h, not-false timed e, lt-leb week 4095 g)
-
-      pub week_on : week ≤ 4095 → leb tow 604799 ≡ legal_time messages timed week tow count
-      unfolding legal_time
-      week_on g = rw (le-leb count messages h, not-false timed e, le-leb week 4095 g)
-
-module _ (a b : Bool) where
-  pub left_fails : not a ≡ true → false ≡ (a && b)
-  left_fails e = rw (not-true a e)
-
-  pub left_holds : not a ≡ false → b ≡ (a && b)
-  left_holds e = rw (not-false a e)
-
--- The messages of a place: before each turn of the loop it is known whether the first i are in range.
+-- The messages of a place are in range: a fold over satellites and statuses.
 abbrev pub legal_at : List ℕ → List ℕ → ℕ → ℕ → Bool
 legal_at satellites statuses at j = legal_entry (get_or satellites (at + j) 0) (get_or statuses (at + j) 0)
 
-module _ (satellites statuses : List ℕ) (at i n : ℕ) {g : Bool} (e : g ≡ all (legal_at satellites statuses at) i) where
-  pub entries_more : {b r : Bool} → b ≡ legal_at satellites statuses at i → r ≡ (g && b) → r ≡ all (legal_at satellites statuses at) (i + 1)
-  unfolding all
-  entries_more q h = rw (add-one i, ← e, ← q) h
+abbrev pub legal_pair : ℕ × ℕ → Bool
+legal_pair p = legal_entry p.0 p.1
 
-  pub entries_end : n ≤ i → i ≤ n → g ≡ legal_entries satellites statuses at n
-  unfolding legal_entries
-  entries_end h k = let same : i ≡ n = omega arith in rw same at e
-
--- A place's time.
-module _ (timed : Bool) (week tow w t : ℕ) where
-  pub time_none : not timed ≡ true → false ≡ is_time timed week tow w t
-  unfolding is_time
-  time_none e = rw (not-true timed e)
-
-  module _ (e : not timed ≡ false) where
-    pub time_week : (week ≡ w → ⊥) → false ≡ is_time timed week tow w t
-    unfolding is_time
-    time_week ne = rw (not-false timed e, ne_eqb week w ne)
-
-    pub time_tow : week ≡ w → eqb tow t ≡ is_time timed week tow w t
-    unfolding is_time
-    time_tow h = rw (not-false timed e, eq-eqb week w h)
+pub entries_folded :
+    (satellites statuses : List ℕ) (at many : ℕ) → at + many ≤ length satellites → at + many ≤ length statuses
+    → fold (λ b p. b && legal_pair p) true (zip (part at many satellites) (part at many statuses)) ≡ legal_entries satellites statuses at many
+unfolding legal_entries
+entries_folded satellites statuses at many h k =
+    let xs = part at many satellites in
+    let ys = part at many statuses in
+    let l = zip xs ys in
+    let lx = part_long at many satellites h in
+    let ly = part_long at many statuses k in
+    let long : length l ≡ many = omega (arith, lx, ly, length-zip xs ys) in
+    ap (fold (λ b p. b && legal_pair p) true) (sym (take_all many l (omega (arith, long))))
+    ∙ folded legal_pair l (0, 0) many (omega (arith, long))
+    ∙ all_same (λ j. legal_pair (get_or l j (0, 0))) (legal_at satellites statuses at) many
+    (λ j g.
+    rw (get_or-zip xs ys j (0, 0) (omega (arith, lx)) (omega (arith, ly)), part_byte at many satellites j g, part_byte at many statuses j g) refl)
 
 -- The ring.
 module _ (times p : ℕ) where
-  pub next_last : p + 1 ≡ times → 0 ≡ next_place times p
-  unfolding next_place
-  next_last e = rw (eq-eqb (p + 1) times e)
-
-  pub next_other : (p + 1 ≡ times → ⊥) → p + 1 ≡ next_place times p
-  unfolding next_place
-  next_other ne = rw (ne_eqb (p + 1) times ne)
-
   pub next_below : p < times → next_place times p < times
   unfolding next_place
   next_below h = go (eqb (p + 1) times) refl
@@ -106,69 +61,75 @@ module _ (times p : ℕ) where
 pub room : (messages times p j : ℕ) → p < times → j ≤ messages → messages * p + j ≤ messages * times
 room messages times p j h g = omega (arith, mul-le-mul_left messages h, mul-suc messages p)
 
--- The record: before each turn of the loop the first p places are in range.
-pub time_count : (messages : ℕ) (timed : Bool) (week tow count : ℕ) {b : Bool} → b ≡ legal_time messages timed week tow count → not b ≡ false → count ≤ messages
-unfolding legal_time
-time_count messages timed week tow count e g = go (leb count messages) refl (sym e ∙ not-false _ g)
-  where
-    go : (b : Bool) → leb count messages ≡ b → (b && cond timed (leb week 4095 && leb tow 604799) (eqb count 0)) ≡ true → count ≤ messages
-    go true h q = leb-true count messages h
-    go false h q = let z : ◌≡◌ {A = ℕ} 0 1 = cc in absurd (omega arith)
-
 abbrev pub time_at : ℕ → Storage → ℕ → Bool
 time_at messages o p = legal_time messages (get_or o.timed p false) (get_or o.weeks p 0) (get_or o.tows p 0) (get_or o.counts p 0)
 
 abbrev pub entries_at : ℕ → Storage → ℕ → Bool
 entries_at messages o p = legal_entries o.satellites o.statuses (messages * p) (get_or o.counts p 0)
 
+-- a place whose count is in range
+pub time_count : (messages : ℕ) (timed : Bool) (week tow count : ℕ) {b : Bool} → b ≡ legal_time messages timed week tow count → b ≡ true → count ≤ messages
+unfolding legal_time
+time_count messages timed week tow count e g = leb-true count messages (and_left (leb count messages) _ (sym e ∙ g))
+
+-- place p of the record has the numbers of place p
+pub place_is : (r : MackStorage) (p : ℕ) → IsPlace (storage_of r) p (nth r p)
+place_is r p =
+    record {
+      timed_is = sym (get_or-map (λ (x : Place). x.timed) r.places p nowhere);
+      week_is = sym (get_or-map (λ (x : Place). x.week) r.places p nowhere);
+      tow_is = sym (get_or-map (λ (x : Place). x.tow) r.places p nowhere);
+      count_is = sym (get_or-map (λ (x : Place). x.count) r.places p nowhere);
+    }
+
+-- the code's place is legal where its time and its messages are
+module _ (messages : ℕ) (o : Storage) (p : ℕ) (here : Place) (h : IsPlace o p here) {a : Bool} (e : a ≡ legal_time messages here.timed here.week here.tow here.count) where
+  same_legal : a ≡ time_at messages o p
+  same_legal = e ∙ rw (h.timed_is, h.week_is, h.tow_is, h.count_is)
+
+  pub place_off : a ≡ false → a ≡ legal_place messages o p
+  place_off g = g ∙ sym (and_first (entries_at messages o p) (sym same_legal ∙ g))
+
+  pub place_on : a ≡ true → {b : Bool} {count : ℕ} → count ≡ here.count → b ≡ legal_entries o.satellites o.statuses (messages * p) count → b ≡ legal_place messages o p
+  place_on g c q =
+      let same = c ∙ h.count_is in
+      q ∙ ap (legal_entries o.satellites o.statuses (messages * p)) same ∙ sym (and_only (sym same_legal ∙ g))
+
+-- the record: the current place, then every place
 module _ (messages times : ℕ) (o : Storage) where
-  pub current_off : times ≤ o.current → false ≡ legal messages times o
+  pub current_off : times ≤ o.current → ltb o.current times ≡ legal messages times o
   unfolding legal
   current_off h = rw (le-ltb o.current times h)
 
-  module _ (p : ℕ) (e : all (legal_place messages o) p ≡ true) {a : Bool} (q : a ≡ time_at messages o p) where
-    pub place_time_off : o.current < times → p < times → not a ≡ true → false ≡ legal messages times o
-    unfolding legal
-    place_time_off h l g = rw (lt-ltb o.current times h) (all_not (legal_place messages o) p times l e (rw (← q, not-true a g)))
-
-    module _ (g : not a ≡ false) {b : Bool} (r : b ≡ entries_at messages o p) where
-      pub place_entries_off : o.current < times → p < times → not b ≡ true → false ≡ legal messages times o
-      unfolding legal
-      place_entries_off h l k = rw (lt-ltb o.current times h) (all_not (legal_place messages o) p times l e (rw (← q, not-false a g, ← r, not-true b k)))
-
-      pub place_on : not b ≡ false → all (legal_place messages o) (p + 1) ≡ true
-      place_on k = all_more (legal_place messages o) p e (rw (← q, not-false a g, ← r, not-false b k))
-
-  pub places_end : (p : ℕ) → all (legal_place messages o) p ≡ true → o.current < times → times ≤ p → p ≤ times → true ≡ legal messages times o
+  pub places_are : o.current < times → {r : Bool} → r ≡ all (legal_place messages o) times → r ≡ legal messages times o
   unfolding legal
-  places_end p e h l k = rw (lt-ltb o.current times h) (all_done (legal_place messages o) p times l k e)
+  places_are h e = rw (lt-ltb o.current times h) e
 
--- The first message of a satellite: before each turn of the loop what is left gives the answer.
-module _ (satellites : List ℕ) (at satellite j n : ℕ) (e : first (sent_by satellites at satellite) (n - j) j ≡ first (sent_by satellites at satellite) n 0) where
-  pub sent_here : j < n → get_or satellites (at + j) 0 ≡ satellite → j ≡ first (sent_by satellites at satellite) n 0
-  sent_here h g = first_here (sent_by satellites at satellite) j n h e (eq-eqb _ satellite g)
+-- the lowest place with a time, from a search that ended at it, or at none
+pub reaches : (r : MackStorage) (week time : ℕ) (q : Option ℕ) → length r.places ≡ 12
+    → MatchOption q (AllWithin (λ (p : Place). is_time p.timed p.week p.tow week time ≡ false) r.places 0 (length r.places))
+    (λ i.
+    (i < length r.places) × HoldsAt (λ (p : Place). is_time p.timed p.week p.tow week time ≡ true) r.places i
+    × AllWithin (λ (p : Place). is_time p.timed p.week p.tow week time ≡ false) r.places 0 i)
+    → Reaches (storage_of r) week time q
+unfolding reached
+reaches r week time q l f = go q f
+  where
+    same : (p : ℕ) → has_time (storage_of r) week time p ≡ is_time (nth r p).timed (nth r p).week (nth r p).tow week time
+    same p = let h = place_is r p in rw (h.timed_is, h.week_is, h.tow_is)
 
-  pub sent_later :
-      j < n → (get_or satellites (at + j) 0 ≡ satellite → ⊥)
-      → first (sent_by satellites at satellite) (n - (j + 1)) (j + 1) ≡ first (sent_by satellites at satellite) n 0
-  sent_later h g = first_later (sent_by satellites at satellite) j n h e (ne_eqb _ satellite g)
-
-  pub sent_none : n ≤ j → j ≤ n → j ≡ first (sent_by satellites at satellite) n 0
-  sent_none h g = first_none (sent_by satellites at satellite) j n h g e
-
--- The lowest place with a time, likewise.
-module _ (timed : List Bool) (weeks tows : List ℕ) (week time p n : ℕ)
-    (e : first (time_is timed weeks tows week time) (n - p) p ≡ first (time_is timed weeks tows week time) n 0) where
-  pub time_here : p < n → {b : Bool} → b ≡ time_is timed weeks tows week time p → b ≡ true → p ≡ first (time_is timed weeks tows week time) n 0
-  time_here h q g = first_here (time_is timed weeks tows week time) p n h e (sym q ∙ g)
-
-  pub time_later :
-      p < n → {b : Bool} → b ≡ time_is timed weeks tows week time p → b ≡ false
-      → first (time_is timed weeks tows week time) (n - (p + 1)) (p + 1) ≡ first (time_is timed weeks tows week time) n 0
-  time_later h q g = first_later (time_is timed weeks tows week time) p n h e (sym q ∙ g)
-
-  pub time_nowhere : n ≤ p → p ≤ n → p ≡ first (time_is timed weeks tows week time) n 0
-  time_nowhere h g = first_none (time_is timed weeks tows week time) p n h g e
+    go : (q : Option ℕ)
+        → MatchOption q (AllWithin (λ (p : Place). is_time p.timed p.week p.tow week time ≡ false) r.places 0 (length r.places))
+        (λ i.
+        (i < length r.places) × HoldsAt (λ (p : Place). is_time p.timed p.week p.tow week time ≡ true) r.places i
+        × AllWithin (λ (p : Place). is_time p.timed p.week p.tow week time ≡ false) r.places 0 i)
+        → Reaches (storage_of r) week time q
+    go None f =
+        rw (first_past (has_time (storage_of r) week time) 12 0 (λ k a b. same k ∙ f k nowhere a (omega (arith, l)))) (omega arith)
+    go (Some i) f = (
+      sym (first_is (has_time (storage_of r) week time) 12 0 i (omega arith) (omega (arith, l, f.0)) (same i ∙ f.1 nowhere) (λ k a b. same k ∙ f.2 k nowhere a b)),
+      omega (arith, l, f.0),
+    )
 
 -- What is known of a legal record.
 module _ (messages times : ℕ) (o : Storage) (e : legal messages times o ≡ true) where

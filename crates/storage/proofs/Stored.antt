@@ -2,23 +2,32 @@
 -- Assumes nothing.
 use Prim.Native.Nat.{ℕ, ◌+◌, ◌*◌, ◌≤◌, ◌<◌}
 use native.Mathlib.Omega.{arith}
-use mathlib.Core.Path.{◌≡◌, refl, sym, ap, ◌∙◌, subst}
+use mathlib.Core.Path.{◌≡◌, refl, sym, ap, ◌∙◌, subst, subst⁻¹}
 use mathlib.Core.List.{List, [], ◌∷◌}
 use mathlib.Core.Bool.{Bool, true, false, cond, not, ◌&&◌}
 use lib.ListN.{length, get_or}
-use lib.Dec.{eqb}
+use lib.Dec.{ltb, eqb}
 use borrow.Author.Tests.{le-ltb, lt-ltb, eq-eqb, ne_eqb, eqb-true, eqb-false, ltb-false, not-false}
 use Rattle.layouts.specs.Answer.{Answer, refused, nothing, gives, refusal}
-use Rattle.storage.specs.declared.places.Admitted.{Admitted}
-use Rattle.storage.specs.declared.places.Admitted.TheVariants.{Refused as NotAdmitted, At}
-use Rattle.storage.specs.inner.Places.{Admits, AdmitsAt, full_at, moves_at, sent_by}
-use Rattle.layouts.proofs.Answers.{none_fails, stopped, went_on, refused_with, given_with}
+use Rattle.std.specs.Prelude.{Result, Ok, Err, Option, Some, None}
+use Rattle.std.specs.Result.{IsErrAnd}
+use Rattle.layouts.specs.Refusals.{refusal_number}
+use Rattle.layouts.specs.declared.refusal.Refusal.{Refusal}
+use Rattle.storage.specs.declared.mack_storage.Place.{Place}
+use Rattle.storage.specs.declared.places.Slot.{Slot}
+use Rattle.storage.specs.inner.Places.{IsPlace, Admits, Reaches, sent_by}
+use Rattle.layouts.proofs.Answers.{none_fails}
+use Rattle.layouts.proofs.Refused.{carried, number_some, err_answer, ok_answer}
+use Rattle.storage.specs.StorePromises.{meaning_get}
+use Rattle.storage.specs.declared.mack_storage.MackFound.{MackFound}
 use Rattle.layouts.specs.Gst.{svn_gst_checks}
 use Rattle.storage.specs.Store.{Storage, State, Asked, Call, Outcome, first, entry, legal_place, legal, is_time, has_time, ask_checks, full}
 use Rattle.layouts.specs.Lists.{put}
-use Rattle.storage.specs.Store.{status_checks, entry_checks, store_checks, next_place, moves, place_for, number_for, place_of, number_of, entered}
+use Rattle.storage.specs.Store.{entry_checks, store_checks, next_place, moves, place_for, number_for, place_of, number_of, entered}
 use Rattle.storage.specs.Store.{stored, store, reached, first_of, found_among, found, get}
-use Rattle.storage.proofs.Searches.{and_both, and_first, and_last}
+use Rattle.std.specs.List.{position_or_len}
+use Rattle.storage.proofs.Bytes.{part, part_long}
+use Rattle.storage.proofs.Searches.{first_listed}
 use Rattle.storage.proofs.StoreRecord.{next_below, legal_current, legal_at_lem, place_few, place_untimed}
 
 -- The refusals of what is asked.
@@ -33,25 +42,6 @@ module _ (messages times : ℕ) (o : Storage) (a : Asked) {b : Bool} (e : b ≡ 
 
 pub ask_legal : (messages times : ℕ) (o : Storage) (a : Asked) {q : ℕ} → q ≡ refusal (ask_checks messages times o a) → q ≡ 0 → legal messages times o ≡ true
 ask_legal messages times o a e z = not-false _ (none_fails (ask_checks messages times o a) tt (sym e ∙ z)).0
-
--- The refusals of a status and a full place.
-module _ (status : ℕ) where
-  pub status_high : (f : Bool) → 3 < status → 7 ≡ refusal (status_checks status f)
-  unfolding refusal
-  status_high f h = rw (lt-ltb 3 status h)
-
-  module _ (h : status ≤ 3) (same : Bool) (count messages : ℕ) where
-    pub status_full : same ≡ true → count ≡ messages → 10 ≡ refusal (status_checks status (same && eqb count messages))
-    unfolding refusal
-    status_full e g = rw (le-ltb 3 status h, e, eq-eqb count messages g)
-
-    pub status_room : same ≡ true → (count ≡ messages → ⊥) → 0 ≡ refusal (status_checks status (same && eqb count messages))
-    unfolding refusal
-    status_room e g = rw (le-ltb 3 status h, e, ne_eqb count messages g)
-
-    pub status_other : same ≡ false → 0 ≡ refusal (status_checks status (same && eqb count messages))
-    unfolding refusal
-    status_other e = rw (le-ltb 3 status h, e)
 
 -- The refusals of a message.
 module _ (messages times : ℕ) (s : State) (c : Call) where
@@ -69,48 +59,40 @@ module _ (messages times : ℕ) (s : State) (c : Call) where
       unfolding refusal
       well_lent h = rw (eq-eqb (length s.memory) (60 * (messages * times)) l, eq-eqb (length c.message) 60 k) h
 
-module _ (messages times : ℕ) (o : Storage) (a : Asked) (status : ℕ) {q : ℕ} (e : q ≡ refusal (ask_checks messages times o a)) where
-  pub not_asked : (q ≡ 0 → ⊥) → q ≡ refusal (entry_checks messages times o a status)
-  not_asked ne = stopped (ask_checks messages times o a) (status_checks status (full messages o a.week a.time)) e ne
+-- where a message goes, by whether the ring moves on
+module _ (times : ℕ) (o : Storage) (week time : ℕ) where
+  pub moved_place : moves o week time ≡ true → place_for times o week time ≡ next_place times o.current
+  unfolding place_for
+  moved_place e = rw e
 
-  -- what the numbers of the current place tell
-  pub told_there :
-      q ≡ 0 → (x : Admitted)
-      → AdmitsAt messages times o.current (get_or o.timed o.current false) (get_or o.weeks o.current 0) (get_or o.tows o.current 0)
-      (get_or o.counts o.current 0) a status x
-      → Admits messages times o a status x
-  unfolding place_for number_for
-  told_there z (NotAdmitted n) f = (went_on (ask_checks messages times o a) (status_checks status (full messages o a.week a.time)) tt e z f.0, f.1)
-  told_there z (At p j) f =
-      (sym (went_on (ask_checks messages times o a) (status_checks status (full messages o a.week a.time)) tt e z (sym f.0)), f.1, f.2)
+  pub moved_number : moves o week time ≡ true → number_for o week time ≡ 0
+  unfolding number_for
+  moved_number e = rw e
 
--- Where a message goes, by the numbers of the current place.
-module _ (messages times current : ℕ) (timed : Bool) (week tow count : ℕ) (a : Asked) (status : ℕ) {same : Bool}
-    (h : same ≡ is_time timed week tow a.week a.time)
-    {r : ℕ} (e : r ≡ refusal (status_checks status (same && eqb count messages))) where
-  pub at_refused : r ≡ refusal (status_checks status (full_at messages timed week tow count a))
-  at_refused = e ∙ ap (λ (x : Bool). refusal (status_checks status (x && eqb count messages))) h
+  pub same_place : moves o week time ≡ false → place_for times o week time ≡ o.current
+  unfolding place_for
+  same_place e = rw e
 
-  module _ (z : r ≡ 0) where
-    at_moved :
-        (b : Bool) → moves_at timed week tow a ≡ b → {p j : ℕ} → p ≡ cond b (next_place times current) current → j ≡ cond b 0 count
-        → AdmitsAt messages times current timed week tow count a status (At p j)
-    at_moved b m g k = (
-      sym at_refused ∙ z,
-      g ∙ ap (λ (x : Bool). cond x (next_place times current) current) (sym m),
-      k ∙ ap (λ (x : Bool). cond x 0 count) (sym m),
-    )
+  pub same_number : moves o week time ≡ false → number_for o week time ≡ get_or o.counts o.current 0
+  unfolding number_for
+  same_number e = rw e
 
-    pub at_next :
-        timed ≡ true → not same ≡ true → {p : ℕ} → p ≡ next_place times current
-        → AdmitsAt messages times current timed week tow count a status (At p 0)
-    at_next t n g = at_moved true (and_both t (ap not (sym h) ∙ n)) g refl
+-- The same, of the code's place p, which is the current one.
+module _ (messages times : ℕ) (o : Storage) (a : Asked) (status : ℕ) where
+  -- a refusal that is handed on
+  pub admits_none : (r : Result Slot Refusal) (e : Refusal) → IsErrAnd r (λ (f : Refusal). f ≡ e)
+      → refusal_number e ≡ refusal (entry_checks messages times o a status) → Admits messages times o a status r
+  admits_none r e i h = subst⁻¹ (Admits messages times o a status) (carried r i) h
 
-    pub at_same : timed ≡ true → not same ≡ false → AdmitsAt messages times current timed week tow count a status (At current count)
-    at_same t n = at_moved false (and_last t (ap not (sym h) ∙ n)) refl refl
+  module _ (p : ℕ) (k : p ≡ o.current) (here : Place) (h : IsPlace o p here) {same : Bool} (e : same ≡ is_time here.timed here.week here.tow a.week a.time) where
+    pub same_time : same ≡ has_time o a.week a.time o.current
+    same_time = e ∙ rw (h.timed_is, h.week_is, h.tow_is, k)
 
-    pub at_untimed : timed ≡ false → AdmitsAt messages times current timed week tow count a status (At current count)
-    at_untimed t = at_moved false (and_first _ t) refl refl
+    pub same_full : {f : Bool} → f ≡ (same && eqb here.count messages) → f ≡ full messages o a.week a.time
+    same_full g = g ∙ rw (same_time, h.count_is, k)
+
+    pub same_moves : {b : Bool} → (here.timed && not same) ≡ b → moves o a.week a.time ≡ b
+    same_moves g = let m : (here.timed && not same) ≡ moves o a.week a.time = rw (same_time, h.timed_is, k) in sym m ∙ g
 
 -- what holds of a message that is not refused
 pub record Fine (messages times : ℕ) (s : State) (c : Call) : Type 0 where
@@ -185,58 +167,74 @@ unfolding stored
 stored_is messages times s c ep ej eo em = rw (eo, em, ep, ej)
 
 -- What is told of where a message goes, the lent bytes and the message being as long as they should.
-module _ (messages times : ℕ) (s : State) (c : Call) (x : Admitted) (e : Admits messages times s.storage c.asked c.status x)
-    (l : length s.memory ≡ 60 * (messages * times)) (k : length c.message ≡ 60) where
-  pub told_refused : {n : ℕ} → x ≡ NotAdmitted n → ◌≡◌ {A = Outcome} (record { state = s; answer = refused n }) (store messages times s c)
-  told_refused g =
-      let f = subst (Admits messages times s.storage c.asked c.status) g e in
-      store_refused messages times s c (well_lent messages times s c l k f.0) f.1
+module _ (messages times : ℕ) (s : State) (c : Call) (l : length s.memory ≡ 60 * (messages * times)) (k : length c.message ≡ 60) where
+  pub told_refused : (e : Refusal) → Admits messages times s.storage c.asked c.status (Err e)
+      → ◌≡◌ {A = Outcome} (record { state = s; answer = refused (refusal_number e) }) (store messages times s c)
+  told_refused e f = store_refused messages times s c (well_lent messages times s c l k f) (number_some e)
 
-  module _ {p j : ℕ} (g : x ≡ At p j) where
-    pub told_none : 0 ≡ refusal (store_checks messages times s c)
-    told_none = let f = subst (Admits messages times s.storage c.asked c.status) g e in well_lent messages times s c l k (sym f.0)
+  module _ (t : Slot) (f : Admits messages times s.storage c.asked c.status (Ok t)) where
+    told_none : 0 ≡ refusal (store_checks messages times s c)
+    told_none = well_lent messages times s c l k f.0
 
-    pub told_place : p ≡ place_of times s c
-    told_place = let f = subst (Admits messages times s.storage c.asked c.status) g e in f.1
-
-    pub told_number : j ≡ number_of s c
-    told_number = let f = subst (Admits messages times s.storage c.asked c.status) g e in f.2
-
-    pub told_below : 0 < messages → (p < times) × (j < messages)
-    told_below pos = let f = fine messages times s c pos told_none refl in (omega (arith, f.place_in, told_place), omega (arith, f.number_in, told_number))
+    pub told_below : 0 < messages → (t.place < times) × (t.number < messages)
+    told_below pos = let g = fine messages times s c pos told_none refl in (omega (arith, g.place_in, f.1), omega (arith, g.number_in, f.2))
 
     pub told_stored :
-        {o : Storage} {m : List ℕ} → o ≡ entered messages s.storage p j c.asked c.status
-        → m ≡ put s.memory (60 * entry messages p j) 60 c.message
+        {o : Storage} {m : List ℕ} → o ≡ entered messages s.storage t.place t.number c.asked c.status
+        → m ≡ put s.memory (60 * entry messages t.place t.number) 60 c.message
         → ◌≡◌ {A = Outcome} (record { state = record { storage = o; memory = m }; answer = gives [] }) (store messages times s c)
     told_stored eo em =
-        ap (λ (t : State). record { state = t; answer = gives [] }) (stored_is messages times s c told_place told_number eo em)
+        ap (λ (t : State). record { state = t; answer = gives [] }) (stored_is messages times s c f.1 f.2 eo em)
         ∙ store_stored messages times s c told_none refl
 
--- Finding.
-module _ (satellites statuses : List ℕ) (at count satellite : ℕ) {j : ℕ} (e : j ≡ first (sent_by satellites at satellite) count 0) where
-  pub find_at : j < count → gives (60 * (at + j) ∷ get_or statuses (at + j) 0 ∷ []) ≡ found_among satellites statuses at count satellite
-  unfolding found_among first_of
-  find_at h = rw (← e, lt-ltb j count h)
+-- Finding, by a search of the place's messages that ended at one or at none.
+module _ (satellites statuses : List ℕ) (at count satellite : ℕ) {r : Option ℕ} {all : List ℕ}
+    (e : r ≡ cond (ltb (position_or_len (λ x. eqb x satellite) all) (length all)) (Some (position_or_len (λ x. eqb x satellite) all)) None)
+    (q : all ≡ part at count satellites) (inside : at + count ≤ length satellites) where
+  searched : r ≡ cond (ltb (first_of satellites at count satellite) count) (Some (first_of satellites at count satellite)) None
+  unfolding first_of
+  searched = e ∙ rw (q, part_long at count satellites inside, first_listed (λ x. eqb x satellite) satellites at count inside)
 
-  pub find_none : count ≤ j → nothing ≡ found_among satellites statuses at count satellite
-  unfolding found_among first_of
-  find_none h = rw (← e, le-ltb j count h)
+  pub search_none : r ≡ None → nothing ≡ found_among satellites statuses at count satellite
+  unfolding found_among
+  search_none h = go (ltb (first_of satellites at count satellite) count) (first_of satellites at count satellite) (sym searched ∙ h)
+    where
+      go : (b : Bool) (n : ℕ) → cond b (Some n) None ≡ None → nothing ≡ cond b (gives (60 * (at + n) ∷ get_or statuses (at + n) 0 ∷ [])) nothing
+      go true n f = absurd (cc)
+      go false n f = refl
 
-pub reaches : (times : ℕ) (o : Storage) (week time : ℕ) {p : ℕ} → p ≡ first (has_time o week time) times 0 → p ≡ reached times o week time
-unfolding reached
-reaches times o week time e = e
+  pub search_some : {j : ℕ} → r ≡ Some j → gives (60 * (at + j) ∷ get_or statuses (at + j) 0 ∷ []) ≡ found_among satellites statuses at count satellite
+  unfolding found_among
+  search_some {j} h = go (ltb (first_of satellites at count satellite) count) (first_of satellites at count satellite) (sym searched ∙ h)
+    where
+      go : (b : Bool) (n : ℕ) → cond b (Some n) None ≡ Some j
+          → gives (60 * (at + j) ∷ get_or statuses (at + j) 0 ∷ []) ≡ cond b (gives (60 * (at + n) ∷ get_or statuses (at + n) 0 ∷ [])) nothing
+      go true n f = cc
+      go false n f = absurd (cc)
 
-module _ (messages times : ℕ) (o : Storage) (a : Asked) {q : ℕ} (e : q ≡ refusal (ask_checks messages times o a)) where
-  pub get_refused : (q ≡ 0 → ⊥) → refused q ≡ get messages times o a
+-- a message that is the first
+pub find_at : (satellites statuses : List ℕ) (at count satellite : ℕ) {j : ℕ} → j ≡ first (sent_by satellites at satellite) count 0 → j < count
+    → gives (60 * (at + j) ∷ get_or statuses (at + j) 0 ∷ []) ≡ found_among satellites statuses at count satellite
+unfolding found_among first_of
+find_at satellites statuses at count satellite {j} e h = rw (← e, lt-ltb j count h)
+
+-- Asking: what the place that is reached says, or that none is.
+module _ (messages times : ℕ) (o : Storage) (a : Asked) (e : 0 ≡ refusal (ask_checks messages times o a)) where
+  pub get_there : {p : ℕ} → p ≡ reached times o a.week a.time → p < times → {x : Answer} → x ≡ found messages o p a.satellite → x ≡ get messages times o a
   unfolding get
-  get_refused ne = rw (← e) (refused_with q _ ne)
+  get_there {p} h l g = ok_answer _ _ e (rw (← h, lt-ltb p times l) g)
 
-  module _ (z : q ≡ 0) {p : ℕ} (h : p ≡ reached times o a.week a.time) where
-    pub get_there : p < times → {x : Answer} → x ≡ found messages o p a.satellite → x ≡ get messages times o a
-    unfolding get
-    get_there l g = rw (← e) (given_with q _ z (rw (← h, lt-ltb p times l) g))
+  pub get_nowhere : times ≤ reached times o a.week a.time → nothing ≡ get messages times o a
+  unfolding get
+  get_nowhere l = ok_answer _ _ e (rw (le-ltb (reached times o a.week a.time) times l))
 
-    pub get_nowhere : times ≤ p → nothing ≡ get messages times o a
-    unfolding get
-    get_nowhere l = rw (← e) (given_with q _ z (rw (← h, le-ltb p times l)))
+-- a refusal that is handed on
+pub get_refused : (messages times : ℕ) (o : Storage) (a : Asked) (r : Result (Option MackFound) Refusal) (e : Refusal) → IsErrAnd r (λ (f : Refusal). f ≡ e)
+    → refusal_number e ≡ refusal (ask_checks messages times o a) → meaning_get r ≡ get messages times o a
+unfolding get
+get_refused messages times o a r e i h = rw (carried r i) (err_answer _ _ e h)
+
+-- what the search of the places told
+module _ (o : Storage) (a : Asked) where
+  pub reached_some : (r : Option ℕ) {p : ℕ} → Reaches o a.week a.time r → r ≡ Some p → (p ≡ reached 12 o a.week a.time) × (p < 12)
+  reached_some r h q = subst (Reaches o a.week a.time) q h

@@ -1,130 +1,183 @@
 // MACK messages, kept until their keys come: 36 for each of 12 times.
-ghost use Rattle.std.specs.Prelude.{◌≡◌, ◌+◌, ◌*◌, ◌≤◌, ◌<◌, length};
+ghost use Rattle.std.specs.Prelude.{◌≡◌, ◌*◌, ◌≤◌, ◌<◌, false, get_or};
 ghost use Rattle.layouts.specs.Answer.{refusal};
-ghost use Rattle.layouts.specs.Lists.{put};
-ghost use Rattle.storage.specs.Store.{ask_checks, entered};
-ghost use Rattle.storage.specs.inner.Places.{asked_of, Admits};
-ghost use Rattle.storage.specs.StorePromises.{storage_of, asks, call, NewStorage, StoreMack, GetMack};
+ghost use Rattle.layouts.specs.Refusals.{refused_by};
+ghost use Rattle.storage.specs.Store.{ask_checks, entered, is_time, legal, legal_place, legal_time};
+ghost use Rattle.storage.specs.inner.Places.{Admits, Reaches, FindsFirst};
+ghost use Rattle.storage.specs.StorePromises.{storage_of, asked_of, call, NewStorage, StoreMack, GetMack};
 
 use crate::places;
-use crate::places::{Admitted, Asked, Place};
-use layouts::gst;
+use crate::places::Slot;
+use layouts::gst::Stamp;
+use layouts::refusal::Refusal;
+
+// What a place has: a time or none, and so many messages. What stands beside no time does not matter, and is kept: so no Option, which has no room for it.
+#[derive(Clone, Copy)]
+pub struct Place {
+    pub timed: bool,
+    pub count: u8,
+    pub week: u16,
+    pub tow: u32,
+}
+
+impl Place {
+    // Its count and time are in range; without a time it has no message. Lent, not copied: a copy is one load of eight bytes, and behind it the compiler makes
+    // the fold over the messages one over eight at a time.
+    fn is_legal(&self) -> bool
+        ensures { result ≡ legal_time 36 self.now.timed self.now.week self.now.tow self.now.count }
+    {
+        if self.timed {
+            self.count <= 36 && self.week <= 4095 && self.tow <= 604799
+        } else {
+            self.count == 0
+        }
+    }
+
+    fn has_time(&self, week: u16, time: u32) -> bool
+        ensures { result ≡ is_time self.now.timed self.now.week self.now.tow week time }
+    {
+        self.timed && self.week == week && self.tow == time
+    }
+}
 
 // What each place and each message of it has; the bytes of the messages are lent by the caller.
 #[derive(Clone, Copy)]
 pub struct MackStorage {
     pub current: u8,
-    // of each place: whether it has a time, its week and time of week, and its number of messages
-    pub timed: [bool; 12],
-    pub weeks: [u16; 12],
-    pub tows: [u32; 12],
-    pub counts: [u8; 12],
-    // of message j of place p, at 36p + j
+    pub places: [Place; 12],
+    // of message j of place p, at 36p + j; two arrays of bytes, of which sixteen of each are checked at a time
     pub satellites: [u8; 432],
     pub statuses: [u8; 432],
 }
 
 #[derive(Clone, Copy)]
-pub enum StoreAnswer {
-    Stored,
-    Refused(u8),
-}
-
-#[derive(Clone, Copy)]
 pub struct MackStored {
     pub storage: MackStorage,
-    pub answer: StoreAnswer,
+    pub answer: Result<(), Refusal>,
 }
 
 // Where a message lies in the lent bytes, and its NMA status.
-#[derive(Clone, Copy)]
-pub enum MackFound {
-    At { first: usize, status: u8 },
-    Nothing,
-    Refused(u8),
+#[derive(Clone, Copy, Debug, PartialEq, Eq)]
+pub struct MackFound {
+    pub first: usize,
+    pub status: u8,
 }
 
 pub fn new() -> MackStorage
     ensures { NewStorage result }
 {
+    let empty = Place {
+        timed: false,
+        count: 0,
+        week: 0,
+        tow: 0,
+    };
     MackStorage {
         current: 0,
-        timed: [false; 12],
-        weeks: [0; 12],
-        tows: [0; 12],
-        counts: [0; 12],
+        places: [empty; 12],
         satellites: [0; 432],
         statuses: [0; 432],
     }
 }
 
-// Message `i` goes to its place in the lent bytes.
-fn copy_message(memory: &mut [u8], i: usize, message: &[u8])
-    requires { (60 * i + 60 ≤ length memory.old) × (length message.now ≡ 60) }
-    ensures { memory.new ≡ put memory.old (60 * i) 60 message.now }
-{
-    let at = 60 * i;
-    let mut k = 0;
-    while k < 60 {
-        memory[at + k] = message[k];
-        k += 1;
+impl MackStorage {
+    // That a place is below 12 is a fact here and in `places`, and no type: the record has `current` as any byte, and an index would be one again.
+    // A place and its messages are in range.
+    fn is_place_legal(&self, p: usize) -> bool
+        requires { p < 12 }
+        ensures { result ≡ legal_place 36 (storage_of self.now) p }
+    {
+        let place = &self.places[p];
+        place.is_legal()
+            && places::entries_legal(
+                &self.satellites,
+                &self.statuses,
+                36 * p,
+                usize::from(place.count),
+            )
     }
-}
 
-// The record with one message more: number `number` of that place, which has that time from now on.
-fn enter(storage: MackStorage, place: usize, number: usize, asked: Asked, status: u8) -> MackStorage
-    requires { (place < 12) × (number < 36) }
-    ensures { storage_of result ≡ entered 36 (storage_of storage) place number (asked_of asked) status }
-{
-    let mut next = storage;
-    let i = 36 * place + number;
-    next.current = place as u8;
-    next.timed[place] = true;
-    next.weeks[place] = asked.week;
-    next.tows[place] = asked.time;
-    next.counts[place] = (number + 1) as u8;
-    next.satellites[i] = asked.satellite;
-    next.statuses[i] = status;
-    next
-}
-
-// The refusal number of the record, a satellite and a time; 0 for none.
-fn ask_refuses(storage: MackStorage, asked: Asked) -> u8
-    ensures { result ≡ refusal (ask_checks 36 12 (storage_of storage) (asked_of asked)) }
-{
-    let current = storage.current as usize;
-    if !places::legal(
-        current,
-        &storage.timed,
-        &storage.weeks,
-        &storage.tows,
-        &storage.counts,
-        &storage.satellites,
-        &storage.statuses,
-        36,
-        12,
-    ) {
-        return 12;
+    // The record is in range.
+    fn is_legal(&self) -> bool
+        ensures { result ≡ legal 36 12 (storage_of self.now) }
+    {
+        self.current < 12 && (0..12).all(|p| self.is_place_legal(p))
     }
-    gst::refuses(asked.satellite as u64, asked.week as u64, asked.time as u64)
-}
 
-// Where a message of that satellite, time and status goes, by this record.
-fn goes_to(storage: MackStorage, asked: Asked, status: u8) -> Admitted
-    ensures { Admits 36 12 (storage_of storage) (asked_of asked) status result }
-{
-    let refused = ask_refuses(storage, asked);
-    if refused != 0 {
-        return Admitted::Refused(refused);
+    // 12 for the record, then 2, 3, 4 for satellite, week and time.
+    fn check(&self, stamp: Stamp) -> Result<(), Refusal>
+        ensures { refused_by result ≡ refusal (ask_checks 36 12 (storage_of self.now) (asked_of stamp)) }
+    {
+        if !self.is_legal() {
+            return Err(Refusal::RecordRange);
+        }
+        stamp.check()
     }
-    let current = storage.current as usize;
-    let here = Place {
-        timed: storage.timed[current],
-        week: storage.weeks[current],
-        tow: storage.tows[current],
-        count: storage.counts[current] as usize,
-    };
-    places::admit_at(36, 12, current, here, asked, status)
+
+    // Where a message goes: one of another time than the current place's to the next place, which is emptied; one of its own time, or at a place without a
+    // time, behind those that are there. Refuses as `check`, then 7 for the status and 10 for a full place.
+    fn slot(&self, stamp: Stamp, status: u8) -> Result<Slot, Refusal>
+        ensures { Admits 36 12 (storage_of self.now) (asked_of stamp) status result }
+    {
+        self.check(stamp)?;
+        let current = usize::from(self.current);
+        let here = &self.places[current];
+        let same = here.has_time(stamp.week, stamp.time);
+        places::check_status(status, same && here.count == 36)?;
+        if here.timed && !same {
+            return Ok(Slot {
+                place: places::next_place(current),
+                number: 0,
+            });
+        }
+        Ok(Slot {
+            place: current,
+            number: usize::from(here.count),
+        })
+    }
+
+    // The record with one message more, at its slot; that place has its time from now on.
+    fn enter(self, slot: Slot, stamp: Stamp, status: u8) -> MackStorage
+        requires { (slot.place < 12) × (slot.number < 36) }
+        ensures { storage_of result ≡ entered 36 (storage_of self) slot.place slot.number (asked_of stamp) status }
+    {
+        let mut next = self;
+        let i = slot.entry();
+        next.current = slot.place as u8;
+        next.places[slot.place] = Place {
+            timed: true,
+            count: (slot.number + 1) as u8,
+            week: stamp.week,
+            tow: stamp.time,
+        };
+        next.satellites[i] = stamp.satellite;
+        next.statuses[i] = status;
+        next
+    }
+
+    // The lowest-numbered place with that time.
+    fn lowest(&self, week: u16, time: u32) -> Option<usize>
+        ensures { Reaches (storage_of self.now) week time result }
+    {
+        self.places
+            .iter()
+            .position(|place| place.has_time(week, time))
+    }
+
+    // The first message of the satellite in a place.
+    fn find(&self, p: usize, satellite: u8) -> Option<MackFound>
+        requires { (p < 12) × (get_or (storage_of self.now).counts p 0 ≤ 36) }
+        ensures { FindsFirst (storage_of self.now) p satellite result }
+    {
+        let first = 36 * p;
+        let here = &self.satellites[first..first + usize::from(self.places[p].count)];
+        let j = here.iter().position(|s| *s == satellite)?;
+        let i = first + j;
+        Some(MackFound {
+            first: 60 * i,
+            status: self.statuses[i],
+        })
+    }
 }
 
 // Stores a message. Refuses 1 for lent bytes other than 25,920 or a message other than 60, 12 for the record, 2, 3, 4 for satellite, week and time, 7 for a
@@ -133,70 +186,38 @@ pub fn store(
     storage: MackStorage,
     memory: &mut [u8],
     message: &[u8],
-    satellite: u8,
-    week: u16,
-    time: u32,
+    stamp: Stamp,
     status: u8,
 ) -> MackStored
-    ensures { StoreMack storage memory.old (call message.now satellite week time status) result memory.new }
+    ensures { StoreMack storage memory.old (call message.now stamp status) result memory.new }
 {
     if memory.len() != 25920 || message.len() != 60 {
         return MackStored {
             storage,
-            answer: StoreAnswer::Refused(1),
+            answer: Err(Refusal::SliceLength),
         };
     }
-    let asked = Asked {
-        satellite,
-        week,
-        time,
-    };
-    match goes_to(storage, asked, status) {
-        Admitted::Refused(n) => MackStored {
+    match storage.slot(stamp, status) {
+        Err(refusal) => MackStored {
             storage,
-            answer: StoreAnswer::Refused(n),
+            answer: Err(refusal),
         },
-        Admitted::At { place, number } => {
-            copy_message(memory, 36 * place + number, message);
-            let next = enter(storage, place, number, asked, status);
+        Ok(slot) => {
+            let first = 60 * slot.entry();
+            memory[first..first + 60].copy_from_slice(message);
             MackStored {
-                storage: next,
-                answer: StoreAnswer::Stored,
+                storage: storage.enter(slot, stamp, status),
+                answer: Ok(()),
             }
         }
     }
 }
 
 // Where the first message of the satellite at that time lies, with its status. Refuses 12 for the record, 2, 3, 4 for satellite, week and time.
-pub fn get(storage: MackStorage, satellite: u8, week: u16, time: u32) -> MackFound
-    ensures { GetMack storage (asks satellite week time) result }
+pub fn get(storage: MackStorage, stamp: Stamp) -> Result<Option<MackFound>, Refusal>
+    ensures { GetMack storage (asked_of stamp) result }
 {
-    let asked = Asked {
-        satellite,
-        week,
-        time,
-    };
-    let refused = ask_refuses(storage, asked);
-    if refused != 0 {
-        return MackFound::Refused(refused);
-    }
-    let place = places::lowest(
-        &storage.timed,
-        &storage.weeks,
-        &storage.tows,
-        12,
-        week,
-        time,
-    );
-    if 12 <= place {
-        return MackFound::Nothing;
-    }
-    let many = storage.counts[place] as usize;
-    places::find(
-        &storage.satellites,
-        &storage.statuses,
-        36 * place,
-        many,
-        satellite,
-    )
+    storage.check(stamp)?;
+    let place = storage.lowest(stamp.week, stamp.time);
+    Ok(place.and_then(|p| storage.find(p, stamp.satellite)))
 }

@@ -12,9 +12,10 @@ use Rattle.layouts.specs.Gst.{svn_gst_checks}
 use Rattle.layouts.proofs.Answers.{none_fails}
 use Rattle.subframes.specs.Subframe.{State, Page, Fed, record_checks, feed_checks, is_silent, out_of, feed}
 use Rattle.subframes.specs.Trace.{entry_at, entries_from, entries, FedMany, feed_each, trace_checks, feed_all}
-use Rattle.subframes.specs.inner.Page.{page_of, state_of, answer_of, PageFed}
+use Rattle.layouts.specs.declared.gst.Stamp.{Stamp}
+use Rattle.subframes.specs.SubframePromises.{page_of}
+use Rattle.subframes.specs.inner.Page.{state_of, answer_of, PageFed}
 use Rattle.subframes.specs.inner.Trace.{is_last, ends_with}
-use Rattle.subframes.specs.declared.page.Entry.{Entry}
 use Rattle.subframes.specs.declared.page.PageTaken.{PageTaken}
 use Rattle.subframes.specs.declared.page.PageTaken.TheVariants.{Unused, Used, Last}
 use Rattle.subframes.proofs.Pages.{fine, feed_refused}
@@ -47,10 +48,13 @@ module _ (n q : ℕ) where
 
 -- An entry's numbers.
 pub entry_is : (trace : List ℕ) (k : ℕ) {w t : ℕ} → w ≡ get_or trace (12 * k + 1) 0 * 256 + get_or trace (12 * k + 2) 0
-    → t ≡ ((get_or trace (12 * k + 3) 0 * 256 + get_or trace (12 * k + 4) 0) * 256 + get_or trace (12 * k + 5) 0) * 256 + get_or trace (12 * k + 6) 0
+    → t ≡ get_or trace (12 * k + 3) 0 * 16777216 + get_or trace (12 * k + 4) 0 * 65536 + get_or trace (12 * k + 5) 0 * 256 + get_or trace (12 * k + 6) 0
     → ◌≡◌ {A = Page} (record { bytes = take 5 (drop (12 * k + 7) trace); satellite = get_or trace (12 * k) 0; week = w; time = t }) (entry_at trace k)
 unfolding entry_at
-entry_is trace k e f = rw (e, f)
+entry_is trace k {t = t} e f =
+    let g : t ≡ ((get_or trace (12 * k + 3) 0 * 256 + get_or trace (12 * k + 4) 0) * 256 + get_or trace (12 * k + 5) 0) * 256 + get_or trace (12 * k + 6) 0 =
+    omega (arith, f) in
+    rw (e, g)
 
 -- Entries one by one.
 module _ (n : ℕ) (s : State) (p : Page) (ps : List Page) where
@@ -100,9 +104,11 @@ page_5 : (trace : List ℕ) (k : ℕ) → k < length trace / 12 → length (page
 page_5 trace k h = simp (length-take, length-drop) (omega arith)
 
 pub turn_none : {s₀ s : State} {trace : List ℕ} {k : ℕ} → Left s₀ trace k s → {x : FedMany} → length trace / 12 ≤ k
-    → x ≡ record { state = s; answer = nothing; consumed = k } → x ≡ feed_each 0 s₀ (entries trace)
+    → x ≡ record { state = s; answer = nothing; consumed = length trace / 12 } → x ≡ feed_each 0 s₀ (entries trace)
 unfolding feed_each
-turn_none {trace = trace} {k = k} d h ex = ex ∙ rw (entries_none trace k (length trace / 12) h) at d.rest
+turn_none {s = s} {trace = trace} {k = k} d h ex =
+    let all : length trace / 12 ≡ k = omega (arith, d.few, h) in
+    ex ∙ ap (λ (n : ℕ). record { state = s; answer = nothing; consumed = n }) all ∙ rw (entries_none trace k (length trace / 12) h) at d.rest
 
 -- A turn: entry k is e, and q is its refusal number.
 pub record Turn : Type 0 where
@@ -110,7 +116,7 @@ pub record Turn : Type 0 where
   pub s : State
   pub trace : List ℕ
   pub k : ℕ
-  pub e : Entry
+  pub e : Stamp
   pub q : ℕ
   pub left : Left s₀ trace k s
   pub inside : k < length trace / 12
@@ -162,7 +168,7 @@ module _ (w : Taken) where
   abbrev t : Turn
   t = w.turn
 
-  abbrev e : Entry
+  abbrev e : Stamp
   e = w.turn.e
 
   -- the state then

@@ -20,8 +20,9 @@ use Rattle.subframes.specs.CardMerges.{answers_of, EndSame}
 use Rattle.subframes.specs.OrderHistory.{answered, Calls, begins, called, misfit, looked}
 use Rattle.subframes.specs.OrderHistory.{HoldSame, TwoWays, by_subframe, by_time, AnsweredSame, CodeOrder}
 use Rattle.subframes.specs.declared.subframe.CollectSubframe.{CollectSubframe}
-use Rattle.subframes.specs.declared.subframe.SubframeAnswer.{SubframeAnswer}
-use Rattle.subframes.specs.declared.subframe.WordAnswer.TheVariants.{Used}
+use Rattle.std.specs.Prelude.{Result, Ok, Option}
+use Rattle.layouts.specs.declared.refusal.Refusal.{Refusal}
+use Rattle.subframes.specs.declared.subframe.Pair.{Pair}
 use Rattle.subframes.proofs.Pages.{feed_refused}
 use Rattle.subframes.proofs.SubframeUsed.{used_is_asked}
 use Rattle.subframes.proofs.SubframeUnique.{back_state}
@@ -50,7 +51,7 @@ told_of s (p ∷ q ∷ ps) (suc (suc n)) a h quiet last =
     ∙ ap (λ (x : Answer). x ∷ answers (feed s p).state (q ∷ take n ps)) (sym (quiet 0 (omega arith)))
 
 call_tells :
-    {c c' : CollectSubframe} {h m h' m' : List ℕ} {qs : List Page} {a : SubframeAnswer} → Call c h m qs a c' h' m'
+    {c c' : CollectSubframe} {h m h' m' : List ℕ} {qs : List Page} {a : Result (Option Pair) Refusal} → Call c h m qs a c' h' m'
     → answered qs (meaning_subframe a) ≡ answers (state c h m) qs
 call_tells (one p r h' m' e) = ap (λ (f : Fed). f.answer ∷ []) e
 call_tells {c} {h = h} {m = m} (many trace r h' m' e) =
@@ -112,9 +113,9 @@ not_refused s p a e ne = go (ℕ_discrete (refusal (feed_checks s p)) 0)
     go (yes z) = z
     go (no z) = absurd (ne (refusal (feed_checks s p)) (e ∙ sym (ap (λ (f : Fed). f.answer) (feed_refused s p refl z))))
 
-said_used : (c : CollectSubframe) (h m : List ℕ) (p : Page) → refusal (feed_checks (state c h m) p) ≡ 0 → IsUsed c p.satellite p.week p.time Used
+said_used : (c : CollectSubframe) (h m : List ℕ) (p : Page) → refusal (feed_checks (state c h m) p) ≡ 0 → IsUsed c p.satellite p.week p.time (Ok true)
     → is_used (state c h m) p ≡ true
-said_used c h m p z e = go (is_used (state c h m) p) (used_is_asked c h m p.bytes p.satellite p.week p.time Used z e)
+said_used c h m p z e = go (is_used (state c h m) p) (used_is_asked c h m p.bytes p.satellite p.week p.time (Ok true) z e)
   where
     go : (b : Bool) → gives [] ≡ cond b (gives []) nothing → b ≡ true
     go true f = refl
@@ -122,7 +123,7 @@ said_used c h m p z e = go (is_used (state c h m) p) (used_is_asked c h m p.byte
 
 code_doubled :
     {c d e : CollectSubframe} {h m x y x' y' : List ℕ} {between : List Page} {a b : Answer} {l : List Answer} (p q : Page) → length c.counts ≡ 36
-    → IsUsed c p.satellite p.week p.time Used → ((n : ℕ) → a ≡ refused n → ⊥) → Calls c h m (p ∷ between) (a ∷ l) d x y
+    → IsUsed c p.satellite p.week p.time (Ok true) → ((n : ℕ) → a ≡ refused n → ⊥) → Calls c h m (p ∷ between) (a ∷ l) d x y
     → one_subframe p.week (subframe_of p.time) between ≡ true → Copy p q → Calls d x y (q ∷ []) (b ∷ []) e x' y'
     → (b ≡ nothing) × HoldSame e d x' x y' y
 code_doubled {c} {d} {h = h} {m = m} {x = x} {y = y} {between = between} {a = a} p q c36 asked ne k o copy k' =

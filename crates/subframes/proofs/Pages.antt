@@ -5,30 +5,30 @@ use native.Mathlib.Omega.{arith}
 use mathlib.Core.Path.{◌≡◌, refl, sym, ap, ◌∙◌}
 use mathlib.Core.List.{List, [], ◌∷◌, ◌++◌}
 use mathlib.Core.Bool.{Bool, true, false, cond, not, ◌&&◌}
-use lib.ListN.{length, get_or, set, take, drop, replicate, get_or-replicate, length-drop}
-use lib.Seq.{take-suc, get_or-drop}
+use lib.ListN.{length, get_or, set, take, drop, get_or-replicate}
+use lib.Seq.{take-suc}
 use lib.Bits.{bit_or, or_zero_l, or_add_and, and_le_r}
 use lib.Dec.{ltb, eqb, eqb-suc-zero}
 use borrow.Author.Tests.{le-ltb, lt-ltb, eq-eqb, ne_eqb, eqb-true, ltb-false, not-false}
-use Rattle.layouts.specs.Answer.{Answer, refused, nothing, gives, Check, refusal, shown, Copied, copied}
+use Rattle.layouts.specs.Answer.{Answer, refused, nothing, gives, Check, refusal, shown, copied}
 use Rattle.layouts.specs.Gst.{svn_checks, svn_gst_checks}
 use Rattle.layouts.proofs.Answers.{none_fails, stopped, went_on, copied_refused, copied_bytes}
 use Rattle.subframes.specs.Subframe.{State, Page, Fed, WordStep, word_of, subframe_of, small, range_checks, record_checks, view_checks}
 use Rattle.subframes.specs.Subframe.{ask_checks, feed_checks, take_word, fresh, changed, put4, used_answer, view, came_out}
 use Rattle.subframes.specs.Subframe.{zeros, is_silent, complete, silent, out_of, answer_at, used, offered, is_used, feed}
-use Rattle.subframes.specs.inner.Page.{page_of, state_of, answer_of, used_of, Offered, PageFed}
-use Rattle.subframes.specs.SubframePromises.{state, TakeWord, meaning_word, size_of, buffer_of, meaning_shown, ViewSubframeShown, ViewSubframe}
-use Rattle.subframes.specs.declared.page.Entry.{Entry}
+use Rattle.std.specs.Prelude.{Result, Ok, Err, Option, Some, None}
+use Rattle.layouts.specs.declared.gst.Stamp.{Stamp}
+use Rattle.layouts.specs.declared.refusal.Refusal.{Refusal}
+use Rattle.subframes.specs.inner.Page.{state_of, answer_of, used_of, Offered, PageFed}
+use Rattle.subframes.specs.SubframePromises.{state, page_of, TakeWord, meaning_word, size_of, buffer_of, meaning_shown}
+use Rattle.subframes.specs.SubframePromises.{ViewSubframeShown, ViewSubframe, HkrootMessageRead}
 use Rattle.subframes.specs.declared.page.PageTaken.{PageTaken}
 use Rattle.subframes.specs.declared.page.PageTaken.TheVariants.{Unused, Used, Last}
 use Rattle.subframes.specs.declared.subframe.Message.{Message}
 use Rattle.subframes.specs.declared.subframe.Message.TheVariants.{Hkroot, Mack}
 use Rattle.subframes.specs.inner.Subframe.{Inside}
 use Rattle.subframes.specs.declared.subframe.CollectSubframe.{CollectSubframe}
-use Rattle.subframes.specs.declared.subframe.SubframeShown.{SubframeShown}
-use Rattle.subframes.specs.declared.subframe.SubframeShown.TheVariants.{Shown, Nothing as NothingShown, Refused as NotShown}
-use Rattle.subframes.specs.declared.subframe.WordAnswer.{WordAnswer}
-use Rattle.subframes.specs.declared.subframe.WordAnswer.TheVariants.{Refused as WordRefused, Unused as WordUnused, Used as WordUsed}
+use Rattle.layouts.specs.declared.part.Part.{Part}
 use Rattle.subframes.specs.declared.subframe.WordTaken.{WordTaken}
 
 -- The refusals: of the record,
@@ -88,6 +88,11 @@ module _ (s : State) (p : Page) where
   pub other_page : (length p.bytes ≡ 5 → ⊥) → 1 ≡ refusal (feed_checks s p)
   unfolding refusal
   other_page ne = rw (ne_eqb (length p.bytes) 5 ne)
+
+  module _ (l : length p.bytes ≡ 5) {q : ℕ} where
+    pub right_page : q ≡ refusal (record_checks s ++ asked) → q ≡ refusal (feed_checks s p)
+    unfolding refusal
+    right_page h = rw (eq-eqb (length p.bytes) 5 l) h
 
   module _ (l : length p.bytes ≡ 5) {q : ℕ} (e : q ≡ refusal (record_checks s)) where
     pub not_taken : (q ≡ 0 → ⊥) → q ≡ refusal (feed_checks s p)
@@ -152,7 +157,7 @@ module _ (n w : ℕ) where
 
 -- what its answer tells
 module _ (n w : ℕ) (x : WordTaken) (e : TakeWord n w x) (h : w < 15) where
-  pub took_next : x.answer ≡ WordUsed → (eqb w n ≡ true) × (x.next.words ≡ w + 1)
+  pub took_next : x.used ≡ Ok true → (eqb w n ≡ true) × (x.next.words ≡ w + 1)
   unfolding take_word
   took_next u = go (ltb 15 n) (ltb 14 w) (eqb w n) refl (ap (λ (y : WordStep). y.answer) e) (ap (λ (y : WordStep). y.next) e)
     where
@@ -162,14 +167,14 @@ module _ (n w : ℕ) (x : WordTaken) (e : TakeWord n w x) (h : w < 15) where
           (cond b (record { next = n; answer = refused 7 })
           (cond c (record { next = n + 1; answer = gives [] }) (record { next = n; answer = nothing })))
 
-      go : (a b c : Bool) → eqb w n ≡ c → meaning_word x.answer ≡ (step a b c).answer → x.next.words ≡ (step a b c).next
+      go : (a b c : Bool) → eqb w n ≡ c → meaning_word x.used ≡ (step a b c).answer → x.next.words ≡ (step a b c).next
           → (c ≡ true) × (x.next.words ≡ w + 1)
       go false false true q f g = (refl, omega (arith, g, eqb-true w n q))
       go false false false q f g = let f : gives [] ≡ nothing = rw u at f in let z : ◌≡◌ {A = ℕ} 0 1 = cc in absurd (omega arith)
       go false true c q f g = let f : gives [] ≡ refused 7 = rw u at f in let z : ◌≡◌ {A = ℕ} 0 1 = cc in absurd (omega arith)
       go true b c q f g = let f : gives [] ≡ refused 12 = rw u at f in let z : ◌≡◌ {A = ℕ} 0 1 = cc in absurd (omega arith)
 
-  took_other : {a : WordAnswer} → x.answer ≡ a → (meaning_word a ≡ gives [] → ⊥) → eqb w n ≡ false
+  took_other : {a : Result Bool Refusal} → x.used ≡ a → (meaning_word a ≡ gives [] → ⊥) → eqb w n ≡ false
   unfolding take_word
   took_other {a} u ne = go (eqb w n) refl
     where
@@ -178,13 +183,13 @@ module _ (n w : ℕ) (x : WordTaken) (e : TakeWord n w x) (h : w < 15) where
       go true q =
           let same : w ≡ n = eqb-true w n q in
           let step = word_next n w (omega arith) (omega arith) same in
-          let next : meaning_word x.answer ≡ gives [] = ap (λ (y : WordStep). y.answer) (e ∙ sym step) in
+          let next : meaning_word x.used ≡ gives [] = ap (λ (y : WordStep). y.answer) (e ∙ sym step) in
           absurd (ne (rw u at next))
 
-  pub took_unused : x.answer ≡ WordUnused → eqb w n ≡ false
+  pub took_unused : x.used ≡ Ok false → eqb w n ≡ false
   took_unused u = took_other u (λ z. let y : ◌≡◌ {A = ℕ} 0 1 = cc in omega arith)
 
-  pub took_refused : {k : ℕ} → x.answer ≡ WordRefused k → eqb w n ≡ false
+  pub took_refused : {k : Refusal} → x.used ≡ Err k → eqb w n ≡ false
   took_refused u = took_other u (λ z. let y : ◌≡◌ {A = ℕ} 0 1 = cc in omega arith)
 
 -- A change of week or subframe.
@@ -228,23 +233,15 @@ unfolding zeros
 zeros_more [] b = and_end (eqb b 0)
 zeros_more (a ∷ l) b = ap (λ (x : Bool). eqb a 0 && x) (zeros_more l b) ∙ and_joined (eqb a 0) (zeros l) (eqb b 0)
 
-module _ (l : List ℕ) (first : ℕ) where
-  pub zeros_none : true ≡ zeros (take 0 (drop first l))
-  unfolding zeros
-  zeros_none = refl
+pub zeros_none : true ≡ zeros []
+unfolding zeros
+zeros_none = refl
 
-  pub zeros_turn : (i any : ℕ) → first + i < length l → eqb any 0 ≡ zeros (take i (drop first l))
-      → eqb (bit_or any (get_or l (first + i) 0)) 0 ≡ zeros (take (i + 1) (drop first l))
-  zeros_turn i any h e =
-      let here : get_or (drop first l) i 0 ≡ get_or l (first + i) 0 = get_or-drop first l i 0 in
-      let inside : i < length (drop first l) = rw (length-drop first l) (omega arith) in
-      let next : i + 1 ≡ suc i = omega arith in
-      or_zero any (get_or l (first + i) 0) ∙ ap (λ (x : Bool). x && eqb (get_or l (first + i) 0) 0) e
-      ∙ sym (ap (λ (n : ℕ). zeros (take n (drop first l))) next ∙ ap zeros (take-suc (drop first l) i 0 inside)
-      ∙ zeros_more (take i (drop first l)) (get_or (drop first l) i 0) ∙ ap (λ (x : ℕ). zeros (take i (drop first l)) && eqb x 0) here)
-
-  pub zeros_end : {i many : ℕ} (any : ℕ) → i ≤ many → many ≤ i → eqb any 0 ≡ zeros (take i (drop first l)) → eqb any 0 ≡ zeros (take many (drop first l))
-  zeros_end {i} {many} any few all e = let same : i ≡ many = omega arith in e ∙ ap (λ (n : ℕ). zeros (take n (drop first l))) same
+pub zeros_turn : (l : List ℕ) (i any : ℕ) → i < length l → eqb any 0 ≡ zeros (take i l) → eqb (bit_or any (get_or l i 0)) 0 ≡ zeros (take (i + 1) l)
+zeros_turn l i any h e =
+    let next : i + 1 ≡ suc i = omega arith in
+    or_zero any (get_or l i 0) ∙ ap (λ (x : Bool). x && eqb (get_or l i 0) 0) e
+    ∙ sym (ap (λ (n : ℕ). zeros (take n l)) next ∙ ap zeros (take-suc l i 0 h) ∙ zeros_more (take i l) (get_or l i 0))
 
 module _ (h m : List ℕ) (i : ℕ) {a : Bool} (ea : a ≡ zeros (take 15 (drop (15 * i) h))) where
   pub silent_both : {b : Bool} → b ≡ zeros (take 60 (drop (60 * i) m)) → a ≡ true → b ≡ is_silent h m i
@@ -300,14 +297,14 @@ module _ (counts h m bytes : List ℕ) (i w : ℕ) where
   not_next e = record { fed = λ week subframe. offered_not (state_of week subframe counts h m) bytes i w e; used_as = sym e }
 
   module _ (x : WordTaken) (e : TakeWord (get_or counts i 0) w x) (few : w < 15) where
-    pub count_refuses : {k : ℕ} → x.answer ≡ WordRefused k → Offered counts h m bytes i w Unused counts h m
+    pub count_refuses : {k : Refusal} → x.used ≡ Err k → Offered counts h m bytes i w Unused counts h m
     count_refuses u = not_next (took_refused (get_or counts i 0) w x e few u)
 
-    pub count_stays : x.answer ≡ WordUnused → Offered counts h m bytes i w Unused counts h m
-    count_stays u = not_next (took_unused (get_or counts i 0) w x e few u)
+    pub count_stays : {b : Bool} → x.used ≡ Ok b → b ≡ false → Offered counts h m bytes i w Unused counts h m
+    count_stays u f = not_next (took_unused (get_or counts i 0) w x e few (u ∙ ap Ok f))
 
-    pub count_rises : x.answer ≡ WordUsed → (x.next.words ≡ w + 1) × (get_or counts i 0 ≡ w)
-    count_rises u = let t = took_next (get_or counts i 0) w x e few u in (t.1, sym (eqb-true w (get_or counts i 0) t.0))
+    pub count_rises : {b : Bool} → x.used ≡ Ok b → b ≡ true → (x.next.words ≡ w + 1) × (get_or counts i 0 ≡ w)
+    count_rises u f = let t = took_next (get_or counts i 0) w x e few (u ∙ ap Ok f) in (t.1, sym (eqb-true w (get_or counts i 0) t.0))
 
   module _ {x y : List ℕ} {n : ℕ} (same : get_or counts i 0 ≡ w) (en : n ≡ w + 1) (ex : x ≡ set h (15 * i + w) (get_or bytes 0 0))
       (ey : y ≡ put4 m (4 * (15 * i + w)) bytes) where
@@ -346,7 +343,7 @@ module _ (s : State) (p : Page) {q : ℕ} (e : q ≡ refusal (feed_checks s p)) 
       g ∙ ap (λ (t : State). offered t p.bytes (p.satellite - 1) (word_of p.time)) et ∙ sym whole
 
 -- an admitted page at lent counts
-module _ (week subframe : ℕ) (counts h m : List ℕ) (e : Entry) (bytes : List ℕ)
+module _ (week subframe : ℕ) (counts h m : List ℕ) (e : Stamp) (bytes : List ℕ)
     (z : refusal (feed_checks (state_of week subframe counts h m) (page_of e bytes)) ≡ 0) where
   pub admitted_entry : Fine (state_of week subframe counts h m) (page_of e bytes)
   admitted_entry = fine (state_of week subframe counts h m) (page_of e bytes) (sym z) refl
@@ -377,14 +374,10 @@ module _ (s : State) (p : Page) {q : ℕ} (e : q ≡ refusal (ask_checks s p)) w
   unfolding used_answer
   ask_refused ne = rw (← e, ne_eqb q 0 ne)
 
-  module _ (z : q ≡ 0) {b : Bool} (u : b ≡ is_used s p) where
-    pub ask_used : b ≡ true → gives [] ≡ used_answer s p
-    unfolding used_answer
-    ask_used h = rw (← e, z, ← u, h)
-
-    pub ask_unused : b ≡ false → nothing ≡ used_answer s p
-    unfolding used_answer
-    ask_unused h = rw (← e, z, ← u, h)
+  pub ask_said : q ≡ 0 → (b : Bool) → b ≡ is_used s p → meaning_word (Ok b) ≡ used_answer s p
+  unfolding used_answer
+  ask_said z true u = rw (← e, z, ← u)
+  ask_said z false u = rw (← e, z, ← u)
 
 pub asked_is : (s : State) (p : Page) → refusal (ask_checks s p) ≡ 0 → (1 ≤ p.satellite) × (p.satellite ≤ 36) × (p.time ≤ 604799)
 asked_is s p z =
@@ -493,22 +486,18 @@ message_room Hkroot h k n e lh lk s f = (rw e (omega arith), rw e (omega arith))
 message_room Mack h k n e lh lk s f = (rw e (omega arith), rw e (omega arith))
 
 -- what is shown of some bytes
-module _ {p : SubframeShown} where
-  pub inside_shown : {first many len : ℕ} → p ≡ Shown first many → Inside p len → first + many ≤ len
+module _ {o : Option Part} where
+  pub inside_shown : {x : Part} {len : ℕ} → o ≡ Some x → Inside o len → x.first + x.many ≤ len
   inside_shown e h = rw e at h
 
   module _ (m : List ℕ) where
-    pub part_bytes : {first many : ℕ} → p ≡ Shown first many → take many (drop first m) ≡ shown m (meaning_shown p)
+    pub part_bytes : {x : Part} → o ≡ Some x → take x.many (drop x.first m) ≡ shown m (meaning_shown (Ok o))
     unfolding shown
     part_bytes e = rw e
 
-    pub part_nothing : p ≡ NothingShown → [] ≡ shown m (meaning_shown p)
+    pub part_nothing : o ≡ None → [] ≡ shown m (meaning_shown (Ok o))
     unfolding shown
     part_nothing e = rw e
-
-    pub part_refused : {n : ℕ} → p ≡ NotShown n → [] ≡ shown m (meaning_shown p)
-    unfolding shown
-    part_refused e = rw e
 
 -- what the question tells of lies in the buffer
 view_lies :
@@ -531,53 +520,58 @@ view_lies h m s k n eh em e = go (refusal (view_checks s n)) refl (eqb (get_or s
     go (suc q) e b {first} {many} f =
         let f : gives (first ∷ many ∷ []) ≡ refused (suc q) = rw (eqb-suc-zero q) at f in let z : ◌≡◌ {A = ℕ} 0 1 = cc in absurd (omega arith)
 
-view_inside :
-    (c : CollectSubframe) (h m : List ℕ) (k : Message) (n : ℕ) (x : SubframeShown) → ViewSubframeShown c h m k n x
-    → Inside x (length (buffer_of k h m))
-view_inside c h m k n (Shown first many) e = view_lies h m (state c h m) k n refl refl e
-view_inside c h m k n NothingShown e = tt
-view_inside c h m k n (NotShown q) e = tt
+module _ (c : CollectSubframe) (h m : List ℕ) (k : Message) (n : ℕ) where
+  view_inside : (o : Option Part) → ViewSubframeShown c h m k n (Ok o) → Inside o (length (buffer_of k h m))
+  view_inside None e = tt
+  view_inside (Some x) e = view_lies h m (state c h m) k n refl refl e
 
--- the two kinds of message
-module _ (c : CollectSubframe) (h m : List ℕ) (k : Message) (n : ℕ) (x : SubframeShown) (e : ViewSubframeShown c h m k n x) where
-  pub hkroot_inside : k ≡ Hkroot → Inside x (length h)
-  hkroot_inside g = let i : Inside x (length (buffer_of k h m)) = view_inside c h m k n x e in rw g at i
+  pub no_part : (e : Refusal) → ViewSubframeShown c h m k n (Err e) → ViewSubframe c h m k n []
+  unfolding shown
+  no_part e g = ap (shown (buffer_of k h m)) g
 
-  pub mack_inside : k ≡ Mack → Inside x (length m)
-  mack_inside g = let i : Inside x (length (buffer_of k h m)) = view_inside c h m k n x e in rw g at i
+  -- the two kinds of message
+  module _ (o : Option Part) (e : ViewSubframeShown c h m k n (Ok o)) where
+    pub hkroot_inside : k ≡ Hkroot → Inside o (length h)
+    hkroot_inside g = let i : Inside o (length (buffer_of k h m)) = view_inside o e in rw g at i
 
-  pub hkroot_part : {r : List ℕ} → k ≡ Hkroot → r ≡ shown h (meaning_shown x) → ViewSubframe c h m k n r
-  hkroot_part g p = p ∙ ap (λ (l : List ℕ). shown l (meaning_shown x)) (sym (ap (λ (j : Message). buffer_of j h m) g)) ∙ ap (shown (buffer_of k h m)) e
+    pub mack_inside : k ≡ Mack → Inside o (length m)
+    mack_inside g = let i : Inside o (length (buffer_of k h m)) = view_inside o e in rw g at i
 
-  pub mack_part : {r : List ℕ} → k ≡ Mack → r ≡ shown m (meaning_shown x) → ViewSubframe c h m k n r
-  mack_part g p = p ∙ ap (λ (l : List ℕ). shown l (meaning_shown x)) (sym (ap (λ (j : Message). buffer_of j h m) g)) ∙ ap (shown (buffer_of k h m)) e
+    pub hkroot_part : {r : List ℕ} → k ≡ Hkroot → r ≡ shown h (meaning_shown (Ok o)) → ViewSubframe c h m k n r
+    hkroot_part g p =
+        p ∙ ap (λ (l : List ℕ). shown l (meaning_shown (Ok o))) (sym (ap (λ (j : Message). buffer_of j h m) g)) ∙ ap (shown (buffer_of k h m)) e
+
+    pub mack_part : {r : List ℕ} → k ≡ Mack → r ≡ shown m (meaning_shown (Ok o)) → ViewSubframe c h m k n r
+    mack_part g p =
+        p ∙ ap (λ (l : List ℕ). shown l (meaning_shown (Ok o))) (sym (ap (λ (j : Message). buffer_of j h m) g)) ∙ ap (shown (buffer_of k h m)) e
 
 -- an HKROOT message by value
-module _ (c : CollectSubframe) (h m : List ℕ) (n : ℕ) (x : SubframeShown) (e : ViewSubframeShown c h m Hkroot n x) where
-  pub message_refused :
-      {q : ℕ} → x ≡ NotShown q → ◌≡◌ {A = Copied} (record { answer = refused q; bytes = replicate 15 0 }) (copied 15 h (view (state c h m) 15 n))
-  message_refused g = copied_refused 15 h (rw g at e)
+module _ (c : CollectSubframe) (h m : List ℕ) (n : ℕ) where
+  pub message_refused : (e : Refusal) → ViewSubframeShown c h m Hkroot n (Err e) → HkrootMessageRead c h m n (Err e)
+  message_refused e g = copied_refused 15 h g
 
-  pub message_nothing : x ≡ NothingShown → ◌≡◌ {A = Copied} (record { answer = nothing; bytes = replicate 15 0 }) (copied 15 h (view (state c h m) 15 n))
+  pub message_nothing : {o : Option Part} → ViewSubframeShown c h m Hkroot n (Ok o) → o ≡ None → HkrootMessageRead c h m n (Ok None)
   unfolding copied
-  message_nothing g = ap (copied 15 h) (rw g at e)
+  message_nothing g e = ap (copied 15 h) (rw e at g)
 
-  message_15 : {first many : ℕ} → x ≡ Shown first many → many ≡ 15
-  unfolding view
-  message_15 g = go (eqb (refusal (view_checks (state c h m) n)) 0) (eqb (get_or c.counts (n - 1) 0) 15) (rw g at e)
-    where
-      go :
-          (a b : Bool) {first many : ℕ}
-          → gives (first ∷ many ∷ []) ≡ cond a (cond b (gives (15 * (n - 1) ∷ 15 ∷ [])) nothing) (refused (refusal (view_checks (state c h m) n)))
-          → many ≡ 15
-      go true true f = cc
-      go true false f = let z : ◌≡◌ {A = ℕ} 0 1 = cc in absurd (omega arith)
-      go false b f = let z : ◌≡◌ {A = ℕ} 0 1 = cc in absurd (omega arith)
+  module _ {o : Option Part} {p : Part} (eo : ViewSubframeShown c h m Hkroot n (Ok o)) (is : o ≡ Some p) where
+    e : ViewSubframeShown c h m Hkroot n (Ok (Some p))
+    e = rw is at eo
 
-  pub message_room_15 : {first many : ℕ} → x ≡ Shown first many → first + 15 ≤ length h
-  message_room_15 {first} g = rw (← message_15 g) (inside_shown g (hkroot_inside c h m Hkroot n x e refl))
+    message_15 : p.many ≡ 15
+    unfolding view
+    message_15 = go (eqb (refusal (view_checks (state c h m) n)) 0) (eqb (get_or c.counts (n - 1) 0) 15) e
+      where
+        go :
+            (a b : Bool) {first many : ℕ}
+            → gives (first ∷ many ∷ []) ≡ cond a (cond b (gives (15 * (n - 1) ∷ 15 ∷ [])) nothing) (refused (refusal (view_checks (state c h m) n)))
+            → many ≡ 15
+        go true true f = cc
+        go true false f = let z : ◌≡◌ {A = ℕ} 0 1 = cc in absurd (omega arith)
+        go false b f = let z : ◌≡◌ {A = ℕ} 0 1 = cc in absurd (omega arith)
 
-  pub message_bytes :
-      {first many : ℕ} {l : List ℕ} → x ≡ Shown first many → l ≡ take 15 (drop first h)
-      → ◌≡◌ {A = Copied} (record { answer = gives (first ∷ many ∷ []); bytes = l }) (copied 15 h (view (state c h m) 15 n))
-  message_bytes {first} g p = copied_bytes 15 h (rw g at e) (p ∙ ap (λ (k : ℕ). take k (drop first h)) (sym (message_15 g)))
+    pub message_room_15 : p.first + 15 ≤ length h
+    message_room_15 = let i = view_inside c h m Hkroot n (Some p) e in rw message_15 at i
+
+    pub message_bytes : {l : List ℕ} → l ≡ take 15 (drop p.first h) → HkrootMessageRead c h m n (Ok (Some (record { part = p; bytes = l })))
+    message_bytes g = copied_bytes 15 h e (g ∙ ap (λ (k : ℕ). take k (drop p.first h)) (sym message_15))

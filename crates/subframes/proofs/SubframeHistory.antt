@@ -6,9 +6,10 @@ use native.Mathlib.Decide.{ℕ_discrete}
 use mathlib.Core.Logic.{⊎_elim}
 use mathlib.Core.Path.{◌≡◌, refl, sym, ap, ◌∙◌, subst, subst⁻¹}
 use mathlib.Core.List.{List, [], ◌∷◌, ◌++◌, append-nil, append_assoc}
-use mathlib.Core.Bool.{Bool, true, false, cond}
+use mathlib.Core.Bool.{Bool, true, false, cond, true≢false}
 use lib.ListN.{length, get_or, take, replicate}
 use lib.Dec.{ltb, eqb}
+use borrow.Author.Tests.{eq-eqb}
 use Rattle.layouts.specs.Answer.{Answer, refused, nothing, gives, shown, refusal}
 use Rattle.layouts.specs.Answer.{Copied, copied}
 use Rattle.layouts.specs.Gst.{svn_checks}
@@ -16,19 +17,24 @@ use Rattle.subframes.specs.Subframe.{State, new, Page, word_of, subframe_of, Fed
 use Rattle.subframes.specs.Subframe.{zeros, is_silent, out_of}
 use Rattle.subframes.specs.Subframe.{offered, feed, view, came_out}
 use Rattle.subframes.specs.Trace.{entries, FedMany, trace_checks, feed_all}
-use Rattle.subframes.specs.SubframePromises.{state, meaning_subframe, meaning_shown, outcome, size_of, buffer_of, FeedSubframe}
+use Rattle.subframes.specs.SubframePromises.{state, meaning_subframe, meaning_shown, meaning_message, outcome, size_of, buffer_of, FeedSubframe}
 use Rattle.subframes.specs.TracePromises.{outcome_all, FeedAll}
-use Rattle.subframes.specs.SubframeRecovery.{is_admitted, before, run, after, no_page, has_word, Words, Built, ComesOut, are_zeros, Alike, Viewed, Recovers}
-use Rattle.subframes.specs.SubframeHistory.{Call, one, many, Misfit, History, begun, called, misfit, looked, ShowsPair, ShowsNone, FeedRecovers}
+use Rattle.subframes.specs.SubframeRecovery.{is_admitted, before, run, after, no_page, has_word, hkroot_of, Words, Built, ComesOut, are_zeros, Alike, Viewed, Recovers}
+use Rattle.subframes.specs.SubframeHistory.{Call, one, many, Misfit, History, begun, called, misfit, looked, ShowsPair, no_bytes, ShowsNone, FeedRecovers}
 use Rattle.subframes.specs.SubframeHistory.{FeedAllRecovers, MisfitRefused, CodeRecovers, AnyPages}
 use Rattle.subframes.specs.SubframeHistory.{word_page, words_from, last_page, short_page, WordsExample, RefusedCalls, SmallestCase}
 use Rattle.runs.proofs.Rising.{reaches}
 use Rattle.subframes.specs.declared.subframe.CollectSubframe.{CollectSubframe}
-use Rattle.subframes.specs.declared.subframe.SubframeAnswer.{SubframeAnswer}
-use Rattle.subframes.specs.declared.subframe.SubframeAnswer.TheVariants.{Refused, Nothing, Complete, Silent}
+use Rattle.std.specs.Prelude.{Result, Ok, Err, Option, Some, None}
+use Rattle.layouts.specs.Refusals.{refusal_number}
+use Rattle.layouts.specs.declared.refusal.Refusal.{Refusal}
+use Rattle.layouts.specs.declared.refusal.Refusal.TheVariants.{SliceLength, Satellite}
+use Rattle.layouts.proofs.Refused.{number_some}
+use Rattle.subframes.specs.declared.subframe.Pair.{Pair}
+use Rattle.subframes.specs.declared.subframe.Pair.TheVariants.{Complete, Silent}
 use Rattle.subframes.specs.declared.subframe.SubframeFed.{SubframeFed}
-use Rattle.subframes.specs.declared.subframe.SubframeShown.{SubframeShown}
-use Rattle.subframes.specs.declared.subframe.SubframeShown.TheVariants.{Shown, Nothing as NothingShown, Refused as NotShown}
+use Rattle.layouts.specs.declared.part.Part.{Part}
+use Rattle.layouts.proofs.Back.{number_back}
 use Rattle.subframes.specs.declared.trace.TraceFed.{TraceFed}
 use Rattle.subframes.proofs.Pages.{feed_refused, other_hkroot, other_mack, other_page, not_taken, not_seen, view_refused}
 use Rattle.subframes.proofs.Pages.{came_shown, came_nothing, came_not}
@@ -36,7 +42,7 @@ use Rattle.subframes.proofs.Entries.{not_whole, whole, all_refused}
 use Rattle.subframes.proofs.SubframeSound.{Sound, sound_fed, sound_admitted, sound_passes}
 use Rattle.subframes.proofs.SubframeRecovery.{subframes_recover, subframes_show, OfPage, of_run}
 use Rattle.subframes.proofs.TraceSteps.{after_more, after_next, Walked, walked_all}
-use Rattle.subframes.proofs.SubframeUnique.{back_subframe, undo_subframe, back_state, view_subframe_shown, hkroot_message}
+use Rattle.subframes.proofs.SubframeUnique.{back_subframe, undo_subframe, back_state, view_subframe_shown, came_out as came_out_is, hkroot_message}
 
 -- Lent bytes of other lengths: every call is refused with 1.
 misfit_record : (s : State) → Misfit s.hkroot s.mack → 1 ≡ refusal (record_checks s)
@@ -62,16 +68,16 @@ misfit_all s w trace = all_refused s trace (number (ℕ_discrete (length trace %
     number (yes l) = whole s trace l (misfit_record s w)
 
 -- the answer is the code's, if it means that
-answer_back : (a b : SubframeAnswer) → meaning_subframe a ≡ meaning_subframe b → a ≡ b
+answer_back : (a b : Result (Option Pair) Refusal) → meaning_subframe a ≡ meaning_subframe b → a ≡ b
 answer_back a b e = sym (undo_subframe a) ∙ ap back_subframe e ∙ undo_subframe b
 
 pub misfit_call :
-    {c c' : CollectSubframe} {x y x' y' : List ℕ} {qs : List Page} {a : SubframeAnswer} → Misfit x y → Call c x y qs a c' x' y'
+    {c c' : CollectSubframe} {x y x' y' : List ℕ} {qs : List Page} {a : Result (Option Pair) Refusal} → Misfit x y → Call c x y qs a c' x' y'
     → MisfitRefused c x y a c' x' y'
 misfit_call {c} {x = x} {y = y} w (one p r x' y' e) =
     let q : outcome r x' y' ≡ record { state = state c x y; answer = refused 1 } = e ∙ sym (misfit_feed (state c x y) w p) in
     record {
-      answer = answer_back r.answer (Refused 1) (ap (λ (f : Fed). f.answer) q);
+      answer = answer_back r.answer (Err SliceLength) (ap (λ (f : Fed). f.answer) q);
       record_is = ap (λ (f : Fed). back_state f.state) q;
       hkroot_is = ap (λ (f : Fed). f.state.hkroot) q;
       mack_is = ap (λ (f : Fed). f.state.mack) q;
@@ -79,7 +85,7 @@ misfit_call {c} {x = x} {y = y} w (one p r x' y' e) =
 misfit_call {c} {x = x} {y = y} w (many trace r x' y' e) =
     let q : outcome_all r x' y' ≡ record { state = state c x y; answer = refused 1; consumed = 0 } = e ∙ sym (misfit_all (state c x y) w trace) in
     record {
-      answer = answer_back r.answer (Refused 1) (ap (λ (f : FedMany). f.answer) q);
+      answer = answer_back r.answer (Err SliceLength) (ap (λ (f : FedMany). f.answer) q);
       record_is = ap (λ (f : FedMany). back_state f.state) q;
       hkroot_is = ap (λ (f : FedMany). f.state.hkroot) q;
       mack_is = ap (λ (f : FedMany). f.state.mack) q;
@@ -87,7 +93,7 @@ misfit_call {c} {x = x} {y = y} w (many trace r x' y' e) =
 
 -- A call feeds its pages.
 pub call_feeds :
-    {c c' : CollectSubframe} {h m h' m' : List ℕ} {qs : List Page} {a : SubframeAnswer} → Call c h m qs a c' h' m'
+    {c c' : CollectSubframe} {h m h' m' : List ℕ} {qs : List Page} {a : Result (Option Pair) Refusal} → Call c h m qs a c' h' m'
     → state c' h' m' ≡ after (state c h m) qs
 call_feeds (one p r h' m' e) = ap (λ (f : Fed). f.state) e
 call_feeds {c} {h = h} {m = m} (many trace r h' m' e) =
@@ -171,38 +177,43 @@ module _ (c : CollectSubframe) (h m : List ℕ) (n : ℕ) where
       record {
         choice = b.0.choice;
         earliest = b.0.earliest;
-        question = λ k a e. view_subframe_shown c h m k n a (Shown (size_of k * (n - 1)) (size_of k)) e (sym (b.1 (size_of k)));
+        question = λ k a e.
+            let p : Part = record { first = size_of k * (n - 1); many = size_of k } in
+            view_subframe_shown c h m k n a (Ok (Some p)) e (sym (b.1 (size_of k)));
         hkroot_part = λ l e. e ∙ ap (shown h) (b.1 15) ∙ b.0.hkroot_is;
         mack_part = λ l e. e ∙ ap (shown m) (b.1 60) ∙ b.0.mack_is;
-        whole = λ a e. ap (λ (f : Copied). f.bytes) (e ∙ ap (copied 15 h) (b.1 15)) ∙ b.0.hkroot_is;
+        whole = λ a e.
+            let l = hkroot_of (λ k. get_or r (b.0.choice.at k) no_page) 15 in
+            let x : Copied = record { answer = gives (15 * (n - 1) ∷ 15 ∷ []); bytes = l } in
+            let q : copied 15 h (view (state c h m) 15 n) ≡ x =
+            ap (copied 15 h) (b.1 15) ∙ ap (λ (z : List ℕ). record { answer = gives (15 * (n - 1) ∷ 15 ∷ []); bytes = z }) b.0.hkroot_is in
+            hkroot_message c h m n a (Ok (Some (record { part = record { first = 15 * (n - 1); many = 15 }; bytes = l }))) e (sym q);
         out = λ a e. e ∙ came_shown (state c h m) 15 n (b.1 15) ∙ ap (λ (x : Bool). out_of x c.week c.subframe) (built_zeros r b.0);
       }
 
   -- no bytes beside such an answer, and it is also what has come out
-  record Bare (x : SubframeShown) : Type 0 where
-    part_is : (l : List ℕ) → shown l (meaning_shown x) ≡ []
-    whole_is : copied 15 h (meaning_shown x) ≡ record { answer = meaning_shown x; bytes = replicate 15 0 }
-    out_is : view (state c h m) 15 n ≡ meaning_shown x → came_out (state c h m) n ≡ meaning_shown x
+  record Bare (why : Option Refusal) : Type 0 where
+    part_is : (l : List ℕ) → shown l (meaning_shown (no_bytes why)) ≡ []
+    whole_is : copied 15 h (meaning_shown (no_bytes why)) ≡ meaning_message (no_bytes why)
+    out_is : view (state c h m) 15 n ≡ meaning_shown (no_bytes why) → came_out (state c h m) n ≡ meaning_subframe (no_bytes why)
 
-  bare_nothing : Bare NothingShown
+  bare : (why : Option Refusal) → Bare why
   unfolding shown copied
-  bare_nothing = record { part_is = λ l. refl; whole_is = refl; out_is = came_nothing (state c h m) 15 n }
+  bare None = record { part_is = λ l. refl; whole_is = refl; out_is = came_nothing (state c h m) 15 n }
+  bare (Some e) = record { part_is = λ l. refl; whole_is = refl; out_is = came_not (state c h m) 15 n }
 
-  bare_refused : (q : ℕ) → Bare (NotShown q)
-  unfolding shown copied
-  bare_refused q = record { part_is = λ l. refl; whole_is = refl; out_is = came_not (state c h m) 15 n }
-
-  shows_bare : (x : SubframeShown) → Bare x → ((size : ℕ) → view (state c h m) size n ≡ meaning_shown x) → ShowsNone c h m n x
-  shows_bare x b v =
+  shows_bare : (why : Option Refusal) → ((size : ℕ) → view (state c h m) size n ≡ meaning_shown (no_bytes why)) → ShowsNone c h m n why
+  shows_bare why v =
+      let b = bare why in
       record {
-        question = λ k a e. view_subframe_shown c h m k n a x e (sym (v (size_of k)));
+        question = λ k a e. view_subframe_shown c h m k n a (no_bytes why) e (sym (v (size_of k)));
         part = λ k l e. e ∙ ap (shown (buffer_of k h m)) (v (size_of k)) ∙ b.part_is (buffer_of k h m);
-        whole = λ a e. hkroot_message c h m n a (record { answer = x; bytes = replicate 15 0 }) e (sym (ap (copied 15 h) (v 15) ∙ b.whole_is));
-        out = λ a e. e ∙ b.out_is (v 15);
+        whole = λ a e. hkroot_message c h m n a (no_bytes why) e (sym (ap (copied 15 h) (v 15) ∙ b.whole_is));
+        out = λ a e. came_out_is c h m n a (no_bytes why) e (sym (b.out_is (v 15)));
       }
 
-  shows_number : (q : ℕ) → (q ≡ 0 → ⊥) → q ≡ refusal (view_checks (state c h m) n) → ShowsNone c h m n (NotShown q)
-  shows_number q ne e = shows_bare (NotShown q) (bare_refused q) (λ size. sym (view_refused (state c h m) size n e ne))
+  shows_number : (e : Refusal) → refusal_number e ≡ refusal (view_checks (state c h m) n) → ShowsNone c h m n (Some e)
+  shows_number e g = shows_bare (Some e) (λ size. sym (view_refused (state c h m) size n g (number_some e)))
 
 -- only 2 is given of a satellite
 svn_number : (n : ℕ) → (refusal (svn_checks n) ≡ 0 → ⊥) → 2 ≡ refusal (svn_checks n)
@@ -214,9 +225,9 @@ svn_number n ne = go (ltb n 1) (ltb 36 n) ne
     go false true ne = refl
     go false false ne = absurd (ne refl)
 
-shows_misfit : (c : CollectSubframe) (x y : List ℕ) (n : ℕ) → Misfit x y → ShowsNone c x y n (NotShown 1)
+shows_misfit : (c : CollectSubframe) (x y : List ℕ) (n : ℕ) → Misfit x y → ShowsNone c x y n (Some SliceLength)
 shows_misfit c x y n w =
-    shows_number c x y n 1 (λ z. absurd (omega (arith, z))) (not_seen (state c x y) n (misfit_record (state c x y) w) (λ z. absurd (omega (arith, z))))
+    shows_number c x y n SliceLength (not_seen (state c x y) n (misfit_record (state c x y) w) (λ z. absurd (omega (arith, z))))
 
 module _ {c : CollectSubframe} {h m : List ℕ} {ps : List Page} (k : History c h m ps) (n : ℕ) where
   viewed : 1 ≤ n → n ≤ 36 → Viewed (state c h m) (run ps) n
@@ -227,12 +238,12 @@ module _ {c : CollectSubframe} {h m : List ℕ} {ps : List Page} (k : History c 
   shows_pair : 1 ≤ n → n ≤ 36 → Words n (run ps) → ShowsPair c h m (run ps) n
   shows_pair some few = shows_words c h m n (run ps) (viewed some few)
 
-  shows_none : 1 ≤ n → n ≤ 36 → (Words n (run ps) → ⊥) → ShowsNone c h m n NothingShown
-  shows_none some few w = shows_bare c h m n NothingShown (bare_nothing c h m n) (λ size. (viewed some few).none w size)
+  shows_none : 1 ≤ n → n ≤ 36 → (Words n (run ps) → ⊥) → ShowsNone c h m n None
+  shows_none some few w = shows_bare c h m n None (λ size. (viewed some few).none w size)
 
-  shows_refused : (refusal (svn_checks n) ≡ 0 → ⊥) → ShowsNone c h m n (NotShown 2)
+  shows_refused : (refusal (svn_checks n) ≡ 0 → ⊥) → ShowsNone c h m n (Some Satellite)
   shows_refused ne =
-      shows_number c h m n 2 (λ z. absurd (omega (arith, z))) (svn_number n ne ∙ sym (sound_passes (state c h m) (reached_sound (reached k)) (svn_checks n)))
+      shows_number c h m n Satellite (svn_number n ne ∙ sym (sound_passes (state c h m) (reached_sound (reached k)) (svn_checks n)))
 
 -- the record is of its run
 pub record_of_run : {c : CollectSubframe} {h m : List ℕ} {ps : List Page} → History c h m ps
@@ -256,12 +267,12 @@ feed_recovers {c} {h = h} {m = m} {ps = ps} k p r h' m' e =
     }
 
 not_complete :
-    (a : SubframeAnswer) → ((week time : ℕ) → a ≡ Complete week time → ⊥) → ((week time : ℕ) → a ≡ Silent week time → ⊥) → (l : List ℕ)
+    (a : Result (Option Pair) Refusal) → ((week time : ℕ) → a ≡ Ok (Some (Complete week time)) → ⊥) → ((week time : ℕ) → a ≡ Ok (Some (Silent week time)) → ⊥) → (l : List ℕ)
     → meaning_subframe a ≡ gives l → ⊥
-not_complete (Refused n) ne ns l e = let z : ◌≡◌ {A = ℕ} 0 1 = cc in absurd (omega arith)
-not_complete Nothing ne ns l e = let z : ◌≡◌ {A = ℕ} 0 1 = cc in absurd (omega arith)
-not_complete (Complete w t) ne ns l e = ne w t refl
-not_complete (Silent w t) ne ns l e = ns w t refl
+not_complete (Err n) ne ns l e = let z : ◌≡◌ {A = ℕ} 0 1 = cc in absurd (omega arith)
+not_complete (Ok None) ne ns l e = let z : ◌≡◌ {A = ℕ} 0 1 = cc in absurd (omega arith)
+not_complete (Ok (Some (Complete w t))) ne ns l e = ne w t refl
+not_complete (Ok (Some (Silent w t))) ne ns l e = ns w t refl
 
 not_admitted : (s : State) (r : List Page) (p : Page) (f : Fed) → Recovers s r p f → (q : ℕ) → f.answer ≡ refused q → is_admitted p ≡ false
 not_admitted s r p f w q e = go (is_admitted p) refl
@@ -308,7 +319,7 @@ module _ {c : CollectSubframe} {h m : List ℕ} {ps : List Page} (j : History c 
   at : (k : ℕ) → Reached (after s (take k es)) (ps ++ take k es)
   at k = reached_more (reached j) (take k es)
 
-  not_full : ((week time : ℕ) → r.answer ≡ Complete week time → ⊥) → ((week time : ℕ) → r.answer ≡ Silent week time → ⊥) → (l : List ℕ)
+  not_full : ((week time : ℕ) → r.answer ≡ Ok (Some (Complete week time)) → ⊥) → ((week time : ℕ) → r.answer ≡ Ok (Some (Silent week time)) → ⊥) → (l : List ℕ)
       → (feed_all s trace).answer ≡ gives l → ⊥
   not_full ne ns l g = not_complete r.answer ne ns l (ap (λ (f : FedMany). f.answer) e ∙ g)
 
@@ -337,7 +348,7 @@ module _ {c : CollectSubframe} {h m : List ℕ} {ps : List Page} (j : History c 
         not_whole = λ l.
             let no = all_refused s trace (not_whole s trace l) (λ z. absurd (omega (arith, z))) in
             let q : outcome_all r h' m' ≡ record { state = s; answer = refused 1; consumed = 0 } = e ∙ sym no in
-            (answer_back r.answer (Refused 1) (ap (λ (f : FedMany). f.answer) q), ap (λ (f : FedMany). f.consumed) q);
+            (answer_back r.answer (Err SliceLength) (ap (λ (f : FedMany). f.answer) q), ap (λ (f : FedMany). f.consumed) q);
       }
 
 pub code_recovers : CodeRecovers
@@ -377,8 +388,13 @@ pub fed_coded : (t : State) (p : Page) → Coded (feed t p).answer
 unfolding feed
 fed_coded t p =
     let u = changed t p.week (subframe_of p.time) in
-    either_coded (eqb (refusal (feed_checks t p)) 0) (offered u p.bytes (p.satellite - 1) (word_of p.time))
-    (record { state = t; answer = refused (refusal (feed_checks t p)) }) (offered_coded u p.bytes (p.satellite - 1) (word_of p.time)) refl
+    go (eqb (refusal (feed_checks t p)) 0) refl (offered u p.bytes (p.satellite - 1) (word_of p.time))
+    (offered_coded u p.bytes (p.satellite - 1) (word_of p.time))
+  where
+    go : (b : Bool) → eqb (refusal (feed_checks t p)) 0 ≡ b → (f : Fed) → Coded f.answer
+        → Coded (cond b f (record { state = t; answer = refused (refusal (feed_checks t p)) })).answer
+    go true e f x = x
+    go false e f x = ap refused (number_back (feed_checks t p) tt (λ z. true≢false (sym (eq-eqb (refusal (feed_checks t p)) 0 z) ∙ e)))
 
 -- Of any page there is a call.
 pub any_call : (c : CollectSubframe) (h m : List ℕ) (p : Page) → let f = feed (state c h m) p in
@@ -448,14 +464,14 @@ smallest_case =
           ((misfit_call w (one p r x' m' e)).answer, misfit (λ a b. h) (λ a b. b) k w (one p r x' m' e));
       comes_out = λ k r h' m' e.
           let f = feed_recovers k (word_page 14) r h' m' e in
-          answer_back r.answer (Silent 1200 60)
+          answer_back r.answer (Ok (Some (Silent 1200 60)))
           (fourteen_then (outcome r h' m') (f.recovers.like_new (replicate 540 0) (replicate 2160 0) refl refl fifteenth));
       completes = λ k r h' m' e.
           let f = feed_recovers k last_page r h' m' e in
-          answer_back r.answer (Complete 1200 60)
+          answer_back r.answer (Ok (Some (Complete 1200 60)))
           (last_then (outcome r h' m') (f.recovers.like_new (replicate 540 0) (replicate 2160 0) refl refl fifteenth_1));
       stays_out = λ k r h' m' e.
           let f = feed_recovers k (word_page 14) r h' m' e in
-          answer_back r.answer Nothing
+          answer_back r.answer (Ok None)
           (short_then (outcome r h' m') (f.recovers.like_new (replicate 540 0) (replicate 2160 0) refl refl fifteenth));
     }

@@ -6,45 +6,45 @@ use Prim.Native.Nat.{ℕ}
 use Rattle.layouts.specs.Answer.{Answer, refused, nothing, gives, Copied}
 use Rattle.layouts.specs.Agree.{Agree, AgreeWithTwo}
 use Rattle.subframes.specs.Subframe.{State, Page, WordStep, Fed}
-use Rattle.subframes.specs.SubframePromises.{outcome, meaning_subframe, meaning_word, meaning_shown}
+use Rattle.std.specs.Prelude.{Bool, true, false, Result, Ok, Err, Option, Some, None}
+use Rattle.layouts.specs.declared.refusal.Refusal.{Refusal}
+use Rattle.layouts.proofs.Back.{refusal_at, undo_refusal}
+use Rattle.subframes.specs.SubframePromises.{outcome, meaning_subframe, meaning_word, meaning_shown, meaning_message}
 use Rattle.subframes.specs.SubframePromises.{NewSubframe, TakeWord, IsUsed, FeedSubframe}
 use Rattle.subframes.specs.SubframePromises.{ViewSubframeShown, CameOut, ViewSubframe, HkrootMessageRead}
 use Rattle.subframes.specs.declared.subframe.CollectSubframe.{CollectSubframe}
-use Rattle.subframes.specs.declared.subframe.SubframeAnswer.{SubframeAnswer}
-use Rattle.subframes.specs.declared.subframe.SubframeAnswer.TheVariants.{Refused, Nothing, Complete, Silent}
+use Rattle.subframes.specs.declared.subframe.Pair.{Pair}
+use Rattle.subframes.specs.declared.subframe.Pair.TheVariants.{Complete, Silent}
 use Rattle.subframes.specs.declared.subframe.SubframeFed.{SubframeFed}
 use Rattle.subframes.specs.declared.subframe.HkrootMessage.{HkrootMessage}
 use Rattle.subframes.specs.declared.subframe.Message.{Message}
-use Rattle.subframes.specs.declared.subframe.SubframeShown.{SubframeShown}
-use Rattle.subframes.specs.declared.subframe.SubframeShown.TheVariants.{Shown, Nothing as NothingShown, Refused as NotShown}
-use Rattle.subframes.specs.declared.subframe.WordAnswer.{WordAnswer}
-use Rattle.subframes.specs.declared.subframe.WordAnswer.TheVariants.{Refused as WordRefused, Unused, Used}
+use Rattle.layouts.specs.declared.part.Part.{Part}
 use Rattle.subframes.specs.declared.subframe.WordTaken.{WordTaken}
 
 -- `back` undoes each `meaning`
-abbrev pub back_subframe : Answer → SubframeAnswer
-back_subframe (refused n) = Refused n
-back_subframe nothing = Nothing
-back_subframe (gives []) = Nothing
-back_subframe (gives (w ∷ [])) = Nothing
-back_subframe (gives (w ∷ t ∷ [])) = Complete w t
-back_subframe (gives (w ∷ t ∷ n ∷ l)) = Silent w t
+abbrev pub back_subframe : Answer → Result (Option Pair) Refusal
+back_subframe (refused n) = Err (refusal_at n)
+back_subframe nothing = Ok None
+back_subframe (gives []) = Ok None
+back_subframe (gives (w ∷ [])) = Ok None
+back_subframe (gives (w ∷ t ∷ [])) = Ok (Some (Complete w t))
+back_subframe (gives (w ∷ t ∷ n ∷ l)) = Ok (Some (Silent w t))
 
-pub undo_subframe : (r : SubframeAnswer) → back_subframe (meaning_subframe r) ≡ r
-undo_subframe (Refused n) = refl
-undo_subframe Nothing = refl
-undo_subframe (Complete w t) = refl
-undo_subframe (Silent w t) = refl
+pub undo_subframe : (r : Result (Option Pair) Refusal) → back_subframe (meaning_subframe r) ≡ r
+undo_subframe (Err e) = ap Err (undo_refusal e)
+undo_subframe (Ok None) = refl
+undo_subframe (Ok (Some (Complete w t))) = refl
+undo_subframe (Ok (Some (Silent w t))) = refl
 
-abbrev back_word : Answer → WordAnswer
-back_word (refused n) = WordRefused n
-back_word nothing = Unused
-back_word (gives l) = Used
+abbrev back_word : Answer → Result Bool Refusal
+back_word (refused n) = Err (refusal_at n)
+back_word nothing = Ok false
+back_word (gives l) = Ok true
 
-undo_word : (r : WordAnswer) → back_word (meaning_word r) ≡ r
-undo_word (WordRefused n) = refl
-undo_word Unused = refl
-undo_word Used = refl
+undo_word : (r : Result Bool Refusal) → back_word (meaning_word r) ≡ r
+undo_word (Err e) = ap Err (undo_refusal e)
+undo_word (Ok false) = refl
+undo_word (Ok true) = refl
 
 -- the record is its state without the lent bytes
 abbrev pub back_state : State → CollectSubframe
@@ -54,13 +54,13 @@ pub new_subframe : Agree NewSubframe
 new_subframe r s p q = ap back_state (p ∙ sym q)
 
 abbrev back_taken : WordStep → WordTaken
-back_taken f = record { next = record { words = f.next }; answer = back_word f.answer }
+back_taken f = record { next = record { words = f.next }; used = back_word f.answer }
 
 pub take_word : (n w : ℕ) → Agree (TakeWord n w)
 take_word n w r s p q = whole r ∙ ap back_taken (p ∙ sym q) ∙ sym (whole s)
   where
-    whole : (f : WordTaken) → ◌≡◌ {A = WordTaken} f (record { next = f.next; answer = back_word (meaning_word f.answer) })
-    whole f = rw (undo_word f.answer)
+    whole : (f : WordTaken) → ◌≡◌ {A = WordTaken} f (record { next = f.next; used = back_word (meaning_word f.used) })
+    whole f = rw (undo_word f.used)
 
 pub used_as : (c : CollectSubframe) (satellite week time : ℕ) → Agree (IsUsed c satellite week time)
 used_as c satellite week time r s p q = sym (undo_word r) ∙ ap back_word (p ∙ sym q) ∙ undo_word s
@@ -76,17 +76,17 @@ feed_subframe c h m page r s x y x' y' p q =
     whole : (f : SubframeFed) → ◌≡◌ {A = SubframeFed} f (record { collector = f.collector; answer = back_subframe (meaning_subframe f.answer) })
     whole f = rw (undo_subframe f.answer)
 
-abbrev back_shown : Answer → SubframeShown
-back_shown (refused n) = NotShown n
-back_shown nothing = NothingShown
-back_shown (gives []) = NothingShown
-back_shown (gives (f ∷ [])) = NothingShown
-back_shown (gives (f ∷ n ∷ l)) = Shown f n
+abbrev back_shown : Answer → Result (Option Part) Refusal
+back_shown (refused n) = Err (refusal_at n)
+back_shown nothing = Ok None
+back_shown (gives []) = Ok None
+back_shown (gives (f ∷ [])) = Ok None
+back_shown (gives (f ∷ n ∷ l)) = Ok (Some (record { first = f; many = n }))
 
-undo_shown : (r : SubframeShown) → back_shown (meaning_shown r) ≡ r
-undo_shown (Shown f n) = refl
-undo_shown NothingShown = refl
-undo_shown (NotShown n) = refl
+undo_shown : (r : Result (Option Part) Refusal) → back_shown (meaning_shown r) ≡ r
+undo_shown (Err e) = ap Err (undo_refusal e)
+undo_shown (Ok None) = refl
+undo_shown (Ok (Some p)) = refl
 
 pub view_subframe_shown : (c : CollectSubframe) (h m : List ℕ) (k : Message) (n : ℕ) → Agree (ViewSubframeShown c h m k n)
 view_subframe_shown c h m k n r s p q = sym (undo_shown r) ∙ ap back_shown (p ∙ sym q) ∙ undo_shown s
@@ -97,11 +97,18 @@ came_out c h m n r s p q = sym (undo_subframe r) ∙ ap back_subframe (p ∙ sym
 pub view_subframe : (c : CollectSubframe) (h m : List ℕ) (k : Message) (n : ℕ) → Agree (ViewSubframe c h m k n)
 view_subframe c h m k n r s p q = p ∙ sym q
 
-abbrev back_message : Copied → HkrootMessage
-back_message x = record { answer = back_shown x.answer; bytes = x.bytes }
+abbrev with_bytes : List ℕ → Result (Option Part) Refusal → Result (Option HkrootMessage) Refusal
+with_bytes l (Err e) = Err e
+with_bytes l (Ok None) = Ok None
+with_bytes l (Ok (Some p)) = Ok (Some (record { part = p; bytes = l }))
+
+abbrev back_message : Copied → Result (Option HkrootMessage) Refusal
+back_message x = with_bytes x.bytes (back_shown x.answer)
+
+undo_message : (r : Result (Option HkrootMessage) Refusal) → back_message (meaning_message r) ≡ r
+undo_message (Err e) = ap Err (undo_refusal e)
+undo_message (Ok None) = refl
+undo_message (Ok (Some m)) = refl
 
 pub hkroot_message : (c : CollectSubframe) (h m : List ℕ) (n : ℕ) → Agree (HkrootMessageRead c h m n)
-hkroot_message c h m n r s p q = whole r ∙ ap back_message (p ∙ sym q) ∙ sym (whole s)
-  where
-    whole : (f : HkrootMessage) → ◌≡◌ {A = HkrootMessage} f (record { answer = back_shown (meaning_shown f.answer); bytes = f.bytes })
-    whole f = rw (undo_shown f.answer)
+hkroot_message c h m n r s p q = sym (undo_message r) ∙ ap back_message (p ∙ sym q) ∙ undo_message s

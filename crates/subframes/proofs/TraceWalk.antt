@@ -17,8 +17,11 @@ use Rattle.subframes.specs.SubframeRecovery.{is_admitted, same_subframe, grown, 
 use Rattle.subframes.specs.SubframeHistory.{many, History, called}
 use Rattle.subframes.specs.TraceWalk.{answers, told, tells, Walk, begins, goes_on, Walks, TraceWalked, seven_at, WalkExample}
 use Rattle.subframes.specs.declared.subframe.CollectSubframe.{CollectSubframe}
-use Rattle.subframes.specs.declared.subframe.SubframeAnswer.{SubframeAnswer}
-use Rattle.subframes.specs.declared.subframe.SubframeAnswer.TheVariants.{Refused, Nothing, Complete, Silent}
+use Rattle.std.specs.Prelude.{Result, Ok, Err, Option, Some, None}
+use Rattle.layouts.specs.declared.refusal.Refusal.{Refusal}
+use Rattle.layouts.specs.declared.refusal.Refusal.TheVariants.{Satellite}
+use Rattle.subframes.specs.declared.subframe.Pair.{Pair}
+use Rattle.subframes.specs.declared.subframe.Pair.TheVariants.{Complete, Silent}
 use Rattle.subframes.specs.declared.trace.TraceFed.{TraceFed}
 use Rattle.subframes.proofs.TraceSteps.{after_more, answers_more, Walked, Tells, walked_all}
 use Rattle.subframes.proofs.SubframeHistory.{whole_passed, feed_all_recovers}
@@ -83,13 +86,13 @@ take_1 : (ps : List Page) → 0 < length ps → take 1 ps ≡ get_or ps 0 no_pag
 take_1 [] h = absurd (omega arith)
 take_1 (p ∷ ps) h = refl
 
-not_complete : (a : SubframeAnswer) (q : ℕ) → meaning_subframe a ≡ refused q → (week time : ℕ) → a ≡ Complete week time → ⊥
+not_complete : (a : Result (Option Pair) Refusal) (q : ℕ) → meaning_subframe a ≡ refused q → (week time : ℕ) → a ≡ Ok (Some (Complete week time)) → ⊥
 not_complete a q e week time f =
     let g : gives (week ∷ time ∷ []) ≡ refused q = rw f at e in
     let z : ◌≡◌ {A = ℕ} 0 1 = cc in
     absurd (omega arith)
 
-not_silent : (a : SubframeAnswer) (q : ℕ) → meaning_subframe a ≡ refused q → (week time : ℕ) → a ≡ Silent week time → ⊥
+not_silent : (a : Result (Option Pair) Refusal) (q : ℕ) → meaning_subframe a ≡ refused q → (week time : ℕ) → a ≡ Ok (Some (Silent week time)) → ⊥
 not_silent a q e week time f =
     let g : gives (week ∷ time ∷ 1 ∷ []) ≡ refused q = rw f at e in
     let z : ◌≡◌ {A = ℕ} 0 1 = cc in
@@ -217,6 +220,6 @@ pub walk_example : WalkExample
 unfolding feed_all feed_each feed offered used changed answer_at refusal small entries_from entry_at
 walk_example =
     goes_on
-    (goes_on (goes_on begins (record { collector = seven_at 1; answer = Nothing; consumed = 1 }) (replicate 540 0) (replicate 2160 0) refl)
-    (record { collector = seven_at 1; answer = Refused 2; consumed = 0 }) (replicate 540 0) (replicate 2160 0) refl)
-    (record { collector = seven_at 2; answer = Nothing; consumed = 1 }) (replicate 540 0) (replicate 2160 0) refl
+    (goes_on (goes_on begins (record { collector = seven_at 1; answer = Ok None; consumed = 1 }) (replicate 540 0) (replicate 2160 0) refl)
+    (record { collector = seven_at 1; answer = Err Satellite; consumed = 0 }) (replicate 540 0) (replicate 2160 0) refl)
+    (record { collector = seven_at 2; answer = Ok None; consumed = 1 }) (replicate 540 0) (replicate 2160 0) refl

@@ -2,7 +2,7 @@
 -- lent bytes end the same, and each page gets the same answer". What holds of calls of the public functions, each of which did what it promises, from any
 -- record and any lent bytes.
 -- Assumes nothing.
-use Rattle.std.specs.Prelude.{ℕ, ◌%◌, List, [], ◌∷◌, ◌++◌, true, ◌≡◌, length}
+use Rattle.std.specs.Prelude.{ℕ, ◌%◌, List, [], ◌∷◌, ◌++◌, true, ◌≡◌, length, Result, Ok, Option}
 use Rattle.layouts.specs.Answer.{Answer, refused, nothing}
 use Rattle.subframes.specs.Subframe.{Page, subframe_of}
 use Rattle.subframes.specs.SubframePromises.{meaning_subframe, IsUsed}
@@ -13,8 +13,8 @@ use Rattle.subframes.specs.DoubledPages.{one_subframe, Copy}
 use Rattle.subframes.specs.CardMerges.{answers_of, SameOrder, Recording, Merge}
 use Rattle.subframes.specs.TimeMerges.{in_time, Received}
 use Rattle.subframes.specs.declared.subframe.CollectSubframe.{CollectSubframe}
-use Rattle.subframes.specs.declared.subframe.SubframeAnswer.{SubframeAnswer}
-use Rattle.subframes.specs.declared.subframe.WordAnswer.TheVariants.{Used}
+use Rattle.layouts.specs.declared.refusal.Refusal.{Refusal}
+use Rattle.subframes.specs.declared.subframe.Pair.{Pair}
 
 -- What a call that answered a told of the pages that it fed: the last of them got a, and those before it nothing. (`feed_all` ends with a page that brings
 -- something.)
@@ -28,10 +28,10 @@ answered (p ∷ q ∷ ps) a = nothing ∷ answered (q ∷ ps) a
 pub data Calls (c : CollectSubframe) (hkroot mack : List ℕ) : List Page → List Answer → CollectSubframe → List ℕ → List ℕ → Type 0 where
   begins : Calls c hkroot mack [] [] c hkroot mack
   -- `feed` or `feed_all`, with the record and the memory as they are, refused or not
-  called : {d d' : CollectSubframe} {x y x' y' : List ℕ} {ps qs : List Page} {l : List Answer} {a : SubframeAnswer} → Calls c hkroot mack ps l d x y
+  called : {d d' : CollectSubframe} {x y x' y' : List ℕ} {ps qs : List Page} {l : List Answer} {a : Result (Option Pair) Refusal} → Calls c hkroot mack ps l d x y
       → Call d x y qs a d' x' y' → Calls c hkroot mack (ps ++ qs) (l ++ answered qs (meaning_subframe a)) d' x' y'
   -- one that was lent bytes of other lengths, wherever they lie, and one that only reads: as in `History`
-  misfit : {d d' : CollectSubframe} {u v u' v' : List ℕ} {ps qs : List Page} {l : List Answer} {a : SubframeAnswer} (x y : List ℕ → List ℕ → List ℕ)
+  misfit : {d d' : CollectSubframe} {u v u' v' : List ℕ} {ps qs : List Page} {l : List Answer} {a : Result (Option Pair) Refusal} (x y : List ℕ → List ℕ → List ℕ)
       → Calls c hkroot mack ps l d (x u v) (y u v) → Misfit u v → Call d u v qs a d' u' v' → Calls c hkroot mack ps l d' (x u' v') (y u' v')
   looked : {d : CollectSubframe} {x y u v : List ℕ} {ps : List Page} {l : List Answer} → Calls c hkroot mack ps l d x y → Look d u v
       → Calls c hkroot mack ps l d x y
@@ -60,7 +60,7 @@ pub record CodeOrder : Type 0 where
       → Calls c hkroot mack (q ∷ p ∷ []) (b' ∷ a' ∷ []) e x' y' → HoldSame d e x x' y y' × (a ≡ a') × (b ≡ b')
   -- a page that was not refused and of which `is_used` said that it would be used; others of the same run; then a copy of it, which was answered b
   pub doubled : {c d e : CollectSubframe} {hkroot mack x y x' y' : List ℕ} {between : List Page} {a b : Answer} {l : List Answer} (p q : Page)
-      → length c.counts ≡ 36 → IsUsed c p.satellite p.week p.time Used → ((n : ℕ) → a ≡ refused n → ⊥)
+      → length c.counts ≡ 36 → IsUsed c p.satellite p.week p.time (Ok true) → ((n : ℕ) → a ≡ refused n → ⊥)
       → Calls c hkroot mack (p ∷ between) (a ∷ l) d x y → one_subframe p.week (subframe_of p.time) between ≡ true → Copy p q
       → Calls d x y (q ∷ []) (b ∷ []) e x' y' → (b ≡ nothing) × HoldSame e d x' x y' y
   -- two merges, by calls of either function

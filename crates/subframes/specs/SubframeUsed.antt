@@ -1,11 +1,11 @@
 -- Whether a page is used: one rule, `takes`, for one satellite's count, for `feed` and for the question `is_used`.
 -- Assumes nothing.
-use Rattle.std.specs.Prelude.{ℕ, ◌-◌, List, [], true, false, cond, ◌≡◌, replicate}
+use Rattle.std.specs.Prelude.{ℕ, ◌-◌, List, [], Bool, true, false, cond, Result, ◌≡◌, replicate}
 use Rattle.layouts.specs.Answer.{nothing, gives, refusal}
 use Rattle.subframes.specs.Subframe.{State, new, Page, word_of, subframe_of, feed_checks, changed, used, is_used, feed}
 use Rattle.subframes.specs.SubframePromises.{state, call, meaning_word, IsUsed}
 use Rattle.subframes.specs.declared.subframe.CollectSubframe.{CollectSubframe}
-use Rattle.subframes.specs.declared.subframe.WordAnswer.{WordAnswer}
+use Rattle.layouts.specs.declared.refusal.Refusal.{Refusal}
 
 -- "If the word differs from the satellite's count: nothing. Otherwise its bytes go to that place and the count rises": an admitted page is called used
 -- exactly where `feed` takes it
@@ -19,7 +19,7 @@ UsedIsTaken =
 -- and so does `is_used` say of a page that `feed` admits, whatever its bytes and the lent ones
 abbrev pub UsedIsAsked : Type 0
 UsedIsAsked =
-    (c : CollectSubframe) (hkroot mack bytes : List ℕ) (satellite week time : ℕ) (r : WordAnswer)
+    (c : CollectSubframe) (hkroot mack bytes : List ℕ) (satellite week time : ℕ) (r : Result Bool Refusal)
     → refusal (feed_checks (state c hkroot mack) (call bytes satellite week time)) ≡ 0 → IsUsed c satellite week time r
     → meaning_word r ≡ cond (is_used (state c hkroot mack) (call bytes satellite week time)) (gives []) nothing
 

@@ -2,17 +2,14 @@
 ghost use Rattle.std.specs.Prelude.{◌≡◌, List, ℕ, ◌+◌, ◌≤◌, ◌<◌, length, get_or, set, take, drop};
 ghost use Rattle.layouts.specs.Answer.{refusal as refusal_of};
 ghost use Rattle.subframes.specs.Subframe.{feed_checks, changed, put4, zeros, is_silent};
-ghost use Rattle.subframes.specs.inner.Page.{page_of, state_of, Offered, PageFed};
+ghost use Rattle.subframes.specs.SubframePromises.{page_of};
+ghost use Rattle.subframes.specs.inner.Page.{state_of, Offered, PageFed};
 
-use crate::subframe::{WordAnswer, WordCount};
+use crate::subframe::WordCount;
+use layouts::gst::Stamp;
 
-// Whose page it is, and when it came.
-#[derive(Clone, Copy)]
-pub(crate) struct Entry {
-    pub satellite: u8,
-    pub week: u16,
-    pub time: u32,
-}
+// The lengths 540 and 2,160 are facts of the lent slices, tested once by `check_record`, and no array types: the caller lends slices of any length. Week and
+// subframe go apart, so that the loop of `feed_all` keeps them in registers.
 
 // What became of an admitted page: not used, used, or used as the last of its subframe.
 #[derive(Clone, Copy)]
@@ -59,10 +56,8 @@ fn are_zeros(bytes: &[u8], first: usize, many: usize) -> bool
     ensures { result ≡ zeros (take many (drop first bytes.now)) }
 {
     let mut any: u8 = 0;
-    let mut i = 0;
-    while i < many {
-        any = any | bytes[first + i];
-        i += 1;
+    for byte in &bytes[first..first + many] {
+        any |= *byte;
     }
     any == 0
 }
@@ -116,11 +111,10 @@ fn offer_at(
         counts.new hkroot.new mack.new }
 {
     let taken = WordCount { words: counts[i] }.take(word);
-    let answer = taken.answer;
-    match answer {
-        WordAnswer::Refused(_) => PageTaken::Unused,
-        WordAnswer::Unused => PageTaken::Unused,
-        WordAnswer::Used => keep(counts, hkroot, mack, page, i, word, taken.next.words),
+    let used = taken.used;
+    match used {
+        Ok(true) => keep(counts, hkroot, mack, page, i, word, taken.next.words),
+        _ => PageTaken::Unused,
     }
 }
 
@@ -132,22 +126,22 @@ pub(crate) fn take_page(
     week: u16,
     subframe: u16,
     page: &[u8],
-    entry: Entry,
+    stamp: Stamp,
 ) -> PageTaken
-    requires { refusal_of (feed_checks (state_of week subframe counts.old hkroot.old mack.old) (page_of entry page.now)) ≡ 0 }
-    ensures { PageFed (state_of week subframe counts.old hkroot.old mack.old) (page_of entry page.now) result
+    requires { refusal_of (feed_checks (state_of week subframe counts.old hkroot.old mack.old) (page_of stamp page.now)) ≡ 0 }
+    ensures { PageFed (state_of week subframe counts.old hkroot.old mack.old) (page_of stamp page.now) result
         counts.new hkroot.new mack.new }
 {
     // the word is (time / 2) mod 15, without a second division
-    let time = entry.time;
+    let time = stamp.time;
     let number = time / 30;
-    restart(counts, week, subframe, entry.week, number as u16);
+    restart(counts, week, subframe, stamp.week, number as u16);
     offer_at(
         counts,
         hkroot,
         mack,
         page,
-        (entry.satellite - 1) as usize,
+        (stamp.satellite - 1) as usize,
         (time / 2 - 15 * number) as u8,
     )
 }

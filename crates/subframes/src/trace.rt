@@ -1,78 +1,54 @@
 // A trace of pages in memory, fed to the subframe collector; docs/FORMATS.md has its layout. The record is checked once, then its counts are lent.
 ghost use Rattle.std.specs.Prelude.{◌≡◌, List, ℕ, ◌+◌, ◌*◌, ◌≤◌, ◌<◌, length, take, drop};
 ghost use Rattle.layouts.specs.Answer.{refusal as refusal_of};
-ghost use Rattle.layouts.specs.Gst.{svn_gst_checks};
 ghost use Rattle.subframes.specs.Subframe.{record_checks};
-ghost use Rattle.subframes.specs.SubframePromises.{state, meaning_subframe};
+ghost use Rattle.layouts.specs.Refusals.{refused_by, refusal_number};
+ghost use Rattle.subframes.specs.SubframePromises.{state, page_of, meaning_subframe};
 ghost use Rattle.subframes.specs.Trace.{entry_at, entries as entries_of, feed_each, trace_checks};
 ghost use Rattle.subframes.specs.TracePromises.{outcome_all, FeedAll};
 ghost use Rattle.subframes.specs.inner.Trace.{is_last, ends_with, fed_of};
-ghost use Rattle.subframes.specs.inner.Page.{page_of};
 
-use crate::page::{Entry, PageTaken};
-use crate::subframe::{CollectSubframe, SubframeAnswer};
+use crate::page::PageTaken;
+use crate::subframe::{CollectSubframe, Pair};
 use crate::{page, subframe};
-use layouts::gst;
+use layouts::gst::Stamp;
+use layouts::refusal::Refusal;
 
 #[derive(Clone, Copy)]
 pub struct TraceFed {
     pub collector: CollectSubframe,
-    pub answer: SubframeAnswer,
+    pub answer: Result<Option<Pair>, Refusal>,
     pub consumed: usize,
 }
 
-// Numbers of two and of four bytes, high byte first.
-fn number_of_2(a: u8, b: u8) -> u16
-    ensures { result ≡ a * 256 + b }
-{
-    a as u16 * 256 + b as u16
-}
-
-fn number_of_4(a: u8, b: u8, c: u8, d: u8) -> u32
-    ensures { result ≡ ((a * 256 + b) * 256 + c) * 256 + d }
-{
-    ((a as u32 * 256 + b as u32) * 256 + c as u32) * 256 + d as u32
-}
-
 // Entry `k` of a trace, without its page.
-pub(crate) fn entry_at(trace: &[u8], k: usize) -> Entry
+pub(crate) fn entry_at(trace: &[u8], k: usize) -> Stamp
     requires { 12 * k + 12 ≤ length trace.now }
     ensures { page_of result (take 5 (drop (12 * k + 7) trace.now)) ≡ entry_at trace.now k }
 {
     let at = 12 * k;
-    Entry {
+    Stamp {
         satellite: trace[at],
-        week: number_of_2(trace[at + 1], trace[at + 2]),
-        time: number_of_4(trace[at + 3], trace[at + 4], trace[at + 5], trace[at + 6]),
+        week: u16::from_be_bytes([trace[at + 1], trace[at + 2]]),
+        time: u32::from_be_bytes([trace[at + 3], trace[at + 4], trace[at + 5], trace[at + 6]]),
     }
-}
-
-// The refusal number of an entry; 0 for none.
-fn entry_refuses(entry: Entry) -> u8
-    ensures { result ≡ refusal_of (svn_gst_checks entry.satellite entry.week entry.time) }
-{
-    gst::refuses(entry.satellite as u64, entry.week as u64, entry.time as u64)
 }
 
 // Whether the page was its subframe's last, so that its pair comes out.
 fn is_last(taken: PageTaken) -> bool
     ensures { result ≡ is_last taken }
 {
-    match taken {
-        PageTaken::Unused => false,
-        PageTaken::Used => false,
-        PageTaken::Last => true,
-    }
+    matches!(taken, PageTaken::Last)
 }
 
-// The answer where an entry that would be refused ends the trace: its number, if it is the first.
-fn ended(consumed: usize, refusal: u8) -> SubframeAnswer
-    ensures { meaning_subframe result ≡ ends_with consumed refusal }
+// The answer where an entry that would be refused ends the trace: its refusal, if it is the first.
+fn ended(consumed: usize, refusal: Refusal) -> Result<Option<Pair>, Refusal>
+    ensures { meaning_subframe result ≡ ends_with consumed (refusal_number refusal) }
 {
     if consumed != 0 {
-        return SubframeAnswer::Nothing;
+        return Ok(None);
     }
-    SubframeAnswer::Refused(refusal)
+    Err(refusal)
 }
 
 // What is handed back.
@@ -80,7 +56,7 @@ fn fed(
     week: u16,
     subframe: u16,
     counts: [u8; 36],
-    answer: SubframeAnswer,
+    answer: Result<Option<Pair>, Refusal>,
     consumed: usize,
 ) -> TraceFed
     ensures { (h m : List ℕ) → outcome_all result h m ≡ fed_of week subframe counts (meaning_subframe answer) consumed h m }
@@ -107,42 +83,45 @@ fn feed_entries(
     ensures { outcome_all result hkroot.new mack.new
         ≡ feed_each 0 (state collector hkroot.old mack.old) (entries_of trace.now) }
 {
+    // entries by their number, and week, subframe and counts apart: the loop then keeps all but the counts in registers
     let many = trace.len() / 12;
     let mut week = collector.week;
     let mut subframe = collector.subframe;
     let mut counts = collector.counts;
-    let mut n = 0;
-    while n < many {
-        let entry = entry_at(trace, n);
-        let refusal = entry_refuses(entry);
-        if refusal != 0 {
+    for n in 0..many {
+        let stamp = entry_at(trace, n);
+        if let Err(refusal) = stamp.check() {
             return fed(week, subframe, counts, ended(n, refusal), n);
         }
         let a = 12 * n + 7;
         let e = 12 * n + 12;
         let page = &trace[a..e];
-        let taken = page::take_page(&mut counts, hkroot, mack, week, subframe, page, entry);
-        week = entry.week;
-        subframe = (entry.time / 30) as u16;
-        n += 1;
+        let taken = page::take_page(&mut counts, hkroot, mack, week, subframe, page, stamp);
+        week = stamp.week;
+        subframe = (stamp.time / 30) as u16;
         if is_last(taken) {
-            let i = (entry.satellite - 1) as usize;
+            let i = (stamp.satellite - 1) as usize;
             let silent = page::is_silent(hkroot, mack, i);
-            let answer = subframe::out_of(silent, week, subframe);
-            return fed(week, subframe, counts, answer, n);
+            let pair = subframe::out_of(silent, week, subframe);
+            return fed(week, subframe, counts, Ok(Some(pair)), n + 1);
         }
     }
-    fed(week, subframe, counts, SubframeAnswer::Nothing, n)
+    fed(week, subframe, counts, Ok(None), many)
 }
 
-// The refusal number of the lent bytes and the record; 0 for none.
-fn trace_refuses(collector: CollectSubframe, hkroot: &[u8], mack: &[u8], trace: &[u8]) -> u8
-    ensures { result ≡ refusal_of (trace_checks (state collector hkroot.now mack.now) trace.now) }
+// The trace, the lent bytes and the record.
+fn check_trace(
+    collector: CollectSubframe,
+    hkroot: &[u8],
+    mack: &[u8],
+    trace: &[u8],
+) -> Result<(), Refusal>
+    ensures { refused_by result ≡ refusal_of (trace_checks (state collector hkroot.now mack.now) trace.now) }
 {
     if trace.len() % 12 != 0 {
-        return 1;
+        return Err(Refusal::SliceLength);
     }
-    subframe::record_refuses(collector, hkroot, mack)
+    subframe::check_record(collector, hkroot, mack)
 }
 
 // Feeds entries from the front until one's pair comes out, complete or silent, the trace ends, or before one that would be refused; tells how many it
@@ -156,11 +135,10 @@ pub fn feed_all(
 ) -> TraceFed
     ensures { FeedAll collector hkroot.old mack.old trace.now result hkroot.new mack.new }
 {
-    let refusal = trace_refuses(collector, hkroot, mack, trace);
-    if refusal != 0 {
+    if let Err(refusal) = check_trace(collector, hkroot, mack, trace) {
         return TraceFed {
             collector,
-            answer: SubframeAnswer::Refused(refusal),
+            answer: Err(refusal),
             consumed: 0,
         };
     }

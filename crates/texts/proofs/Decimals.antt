@@ -10,15 +10,8 @@ use native.Mathlib.Numerals.{add-one}
 use lib.ListN.{length, get_or, take, length-append}
 use lib.Seq.{take-suc, take_all}
 use lib.Dec.{leb, ltb, eqb}
-use borrow.Author.Tests.{ltb-true, ltb-false, leb-true, not-true, not-false, lt-ltb, le-ltb, lt-leb, le-leb, eq-eqb, ne_eqb}
+use borrow.Author.Tests.{ltb-true, ltb-false, leb-true, not-true, not-false, lt-ltb, le-ltb, le-leb, eq-eqb, ne_eqb}
 use Rattle.texts.specs.Decimal.{is_digit, only, digits_only, is_decimal, number_behind, number, most, spelt, digits, DigitsSay}
-
--- a byte is a digit, or not
-pub below_digits : {c : ℕ} → c < 48 → false ≡ is_digit c
-below_digits {c} h = rw (lt-leb 48 c h)
-
-pub from_zero : {c : ℕ} → 48 ≤ c → leb c 57 ≡ is_digit c
-from_zero {c} h = rw (le-leb 48 c h)
 
 pub both : (a b : Bool) → a && b ≡ true → (a ≡ true) × (b ≡ true)
 both true b e = (refl, e)
@@ -63,6 +56,11 @@ module _ (test : ℕ → Bool) where
   only_at (c ∷ s) zero e h = (both (test c) (only test s) e).0
   only_at (c ∷ s) (suc i) e h = only_at s i (both (test c) (only test s) e).1 (le_of_suc-le-suc h)
 
+  pub only_all : (s : List ℕ) → ((i : ℕ) → i < length s → test (get_or s i 0) ≡ true) → only test s ≡ true
+  unfolding only
+  only_all [] h = refl
+  only_all (c ∷ s) h = rw (h 0 (omega arith), only_all s (λ i l. h (suc i) (omega arith)))
+
 -- texts of digits
 pub digits_more :
     (s : List ℕ) (i : ℕ) {b : Bool} → i < length s → digits_only (take i s) ≡ true → b ≡ is_digit (get_or s i 0) → not b ≡ false
@@ -80,12 +78,6 @@ none_given s e = rw (eq-eqb (length s) 0 e)
 
 pub all_digits : (s : List ℕ) (i : ℕ) → (length s ≡ 0 → ⊥) → length s ≤ i → digits_only (take i s) ≡ true → true ≡ is_decimal s
 all_digits s i n h e = rw (ne_eqb (length s) 0 n, ← take_all i s h, e)
-
-pub decimal_digits : (s : List ℕ) {b : Bool} → b ≡ is_decimal s → not b ≡ false → digits_only s ≡ true
-decimal_digits s e t = (both (not (eqb (length s) 0)) (digits_only s) (sym e ∙ not-false _ t)).1
-
-pub digit_at : (s : List ℕ) (i : ℕ) → digits_only s ≡ true → i < length s → (48 ≤ get_or s i 0) × (get_or s i 0 ≤ 57)
-digit_at s i e h = digit_bounds (only_at is_digit s i e h)
 
 -- what they say
 behind_append : (n : ℕ) (s t : List ℕ) → number_behind n (s ++ t) ≡ number_behind (number_behind n s) t

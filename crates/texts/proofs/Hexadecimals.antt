@@ -1,50 +1,33 @@
 -- Laws of hexadecimal digits.
 -- Assumes nothing.
-use mathlib.Core.Path.{◌≡◌, refl, sym, ap, ◌∙◌}
+use mathlib.Core.Path.{◌≡◌, refl, sym, ap, ◌∙◌, subst}
 use mathlib.Core.List.{List, [], ◌∷◌}
-use mathlib.Core.Bool.{Bool, true, false}
+use mathlib.Core.Bool.{Bool, true, false, cond, ◌&&◌}
 use Prim.Native.Nat.{ℕ, zero, suc, ◌+◌, ◌-◌, ◌*◌, ◌/◌, ◌%◌, ◌≤◌, ◌<◌}
+use native.Mathlib.Nat.{zero-add}
 use native.Mathlib.Omega.{arith}
-use lib.ListN.{length, get_or, take}
-use lib.Seq.{take_all, ext_get_or}
-use lib.Dec.{ltb, eqb}
-use borrow.Author.Tests.{lt-ltb, le-ltb, ltb-true, ltb-false, lt-leb, le-leb, leb-true, eq-eqb, ne_eqb, eqb-true, eqb-false}
+use lib.ListN.{length, get_or}
+use lib.Seq.{ext_get_or}
+use lib.Dec.{leb, ltb, eqb}
+use borrow.Author.Tests.{lt-ltb, le-ltb, ltb-true, ltb-false, lt-leb, le-leb, leb-true, eq-eqb, ne_eqb, eqb-true}
+use Rattle.std.specs.Char.{is_ascii_hexdigit}
+use Rattle.std.specs.Prelude.{◌||◌}
+use Rattle.std.specs.Bool.{MatchBool}
+use Rattle.std.specs.List.{AllWithin, HoldsAt, range_with_len}
+use Rattle.std.proofs.lemmas.List.FromFn.{length-range_with_len, get_or-range_with_len}
 use Rattle.texts.specs.Decimal.{only}
 use Rattle.texts.specs.Hexadecimal.{digit_of, is_hex_digit, is_hexadecimal, bytes_of, letter, capitals, same, CapitalsSay}
-use Rattle.texts.proofs.Decimals.{both, only_more, only_not, only_at}
+use Rattle.texts.proofs.Decimals.{both, only_all, only_not, only_at}
 
 -- the value of a digit
 module _ {c : ℕ} where
-  pub below_zero : c < 48 → 16 ≡ digit_of c
-  unfolding digit_of
-  below_zero h = rw (lt-leb 48 c h, lt-leb 65 c (omega arith), lt-leb 97 c (omega arith))
-
   pub zero_nine : 48 ≤ c → c ≤ 57 → c - 48 ≡ digit_of c
   unfolding digit_of
   zero_nine h g = rw (le-leb 48 c h, le-leb c 57 g)
 
-  pub below_capitals : 57 < c → c < 65 → 16 ≡ digit_of c
-  unfolding digit_of
-  below_capitals h g = rw (le-leb 48 c (omega arith), lt-leb c 57 h, lt-leb 65 c g, lt-leb 97 c (omega arith))
-
   pub capital_letter : 65 ≤ c → c ≤ 70 → c - 55 ≡ digit_of c
   unfolding digit_of
   capital_letter h g = rw (le-leb 48 c (omega arith), lt-leb c 57 (omega arith), le-leb 65 c h, le-leb c 70 g)
-
-  pub below_small : 70 < c → c < 97 → 16 ≡ digit_of c
-  unfolding digit_of
-  below_small h g = rw (le-leb 48 c (omega arith), lt-leb c 57 (omega arith), le-leb 65 c (omega arith), lt-leb c 70 h, lt-leb 97 c g)
-
-  pub small_letter : 97 ≤ c → c ≤ 102 → c - 87 ≡ digit_of c
-  unfolding digit_of
-  small_letter h g =
-      rw (le-leb 48 c (omega arith), lt-leb c 57 (omega arith), le-leb 65 c (omega arith), lt-leb c 70 (omega arith), le-leb 97 c h, le-leb c 102 g)
-
-  pub above_small : 102 < c → 16 ≡ digit_of c
-  unfolding digit_of
-  above_small h =
-      rw
-      (le-leb 48 c (omega arith), lt-leb c 57 (omega arith), le-leb 65 c (omega arith), lt-leb c 70 (omega arith), le-leb 97 c (omega arith), lt-leb c 102 h)
 
 -- the digit of a value
 module _ {d : ℕ} where
@@ -107,27 +90,34 @@ pub byte_at :
     → 16 * h + l ≡ get_or (bytes_of s) i 0
 byte_at s i g e f = rw (e, f) (bytes_at s i g)
 
--- whether a text is hexadecimal, digit by digit
-pub hex_none : (s : List ℕ) → only is_hex_digit (take 0 s) ≡ true
-unfolding only
-hex_none [] = refl
-hex_none (c ∷ s) = refl
+-- whether a byte is a digit, and a text is hexadecimal
+hexdigit : (c : ℕ) → is_ascii_hexdigit c ≡ is_hex_digit c
+unfolding digit_of
+hexdigit c = go (leb 48 c && leb c 57) (leb 65 c && leb c 70) (leb 97 c && leb c 102) refl refl refl
+  where
+    go :
+        (x y z : Bool) → leb 48 c && leb c 57 ≡ x → leb 65 c && leb c 70 ≡ y → leb 97 c && leb c 102 ≡ z
+        → (x || y) || z ≡ leb (cond x (c - 48) (cond y (c - 55) (cond z (c - 87) 16))) 15
+    go true y z e f g = let h = leb-true c 57 (both (leb 48 c) (leb c 57) e).1 in sym (le-leb (c - 48) 15 (omega arith))
+    go false true z e f g = let h = leb-true c 70 (both (leb 65 c) (leb c 70) f).1 in sym (le-leb (c - 55) 15 (omega arith))
+    go false false true e f g = let h = leb-true c 102 (both (leb 97 c) (leb c 102) g).1 in sym (le-leb (c - 87) 15 (omega arith))
+    go false false false e f g = refl
 
-pub half_byte : (s : List ℕ) → (length s % 2 ≡ 0 → ⊥) → false ≡ is_hexadecimal s
-half_byte s ne = rw (ne_eqb (length s % 2) 0 ne)
+pub hexdigit_told : (c : ℕ) {b : Bool} → b ≡ is_ascii_hexdigit c → is_hex_digit c ≡ b
+hexdigit_told c e = sym (e ∙ hexdigit c)
 
-module _ (s : List ℕ) (i : ℕ) {d : ℕ} (h : i < length s) (e : d ≡ digit_of (get_or s i 0)) where
-  pub hex_more : only is_hex_digit (take i s) ≡ true → d ≤ 15 → only is_hex_digit (take (i + 1) s) ≡ true
-  hex_more f g = only_more is_hex_digit s i h f (le-leb (digit_of (get_or s i 0)) 15 (omega arith))
-
-  pub not_hex : length s % 2 ≡ 0 → 15 < d → false ≡ is_hexadecimal s
-  not_hex f g = rw (eq-eqb (length s % 2) 0 f, only_not is_hex_digit s i h (lt-leb (digit_of (get_or s i 0)) 15 (omega arith)))
-
-pub all_hex : (s : List ℕ) (i : ℕ) → length s % 2 ≡ 0 → length s ≤ i → only is_hex_digit (take i s) ≡ true → true ≡ is_hexadecimal s
-all_hex s i f h e = rw (eq-eqb (length s % 2) 0 f, ← take_all i s h, e)
+pub all_hex :
+    (s : List ℕ) (r : Bool) → length s % 2 ≡ 0
+    → MatchBool r (AllWithin (λ (x : ℕ). is_hex_digit x ≡ true) s 0 (length s)) ((k : ℕ) × (k < length s) × HoldsAt (λ (x : ℕ). is_hex_digit x ≡ false) s k)
+    → r ≡ is_hexadecimal s
+all_hex s true f h = rw (eq-eqb (length s % 2) 0 f, only_all is_hex_digit s (λ i l. h i 0 (omega arith) l))
+all_hex s false f h = rw (eq-eqb (length s % 2) 0 f, only_not is_hex_digit s h.0 h.1 (h.2 0))
 
 pub hex_at : (s : List ℕ) (i : ℕ) → is_hexadecimal s ≡ true → i < length s → digit_of (get_or s i 0) ≤ 15
 hex_at s i e h = leb-true (digit_of (get_or s i 0)) 15 (only_at is_hex_digit s i (both (eqb (length s % 2) 0) (only is_hex_digit s) e).1 h)
+
+pub hex_digit : (s : List ℕ) (i : ℕ) → is_hexadecimal s ≡ true → i < length s → is_hex_digit (get_or s i 0) ≡ true
+hex_digit s i e h = only_at is_hex_digit s i (both (eqb (length s % 2) 0) (only is_hex_digit s) e).1 h
 
 -- two lists are the same
 same_true : (s t : List ℕ) → same s t ≡ true → s ≡ t
@@ -150,31 +140,22 @@ not_same s t ne = go (same s t) refl
     go true e = absurd (ne (same_true s t e))
 
 module _ (text bytes : List ℕ) where
-  pub odd_text : (length text % 2 ≡ 0 → ⊥) → false ≡ same text (capitals bytes)
-  odd_text ne = not_same text (capitals bytes) (λ e. let l = ap length e in let m = capitals_long bytes in ne (omega arith))
+  pub other_long : (length text ≡ 2 * length bytes → ⊥) → eqb (length text) (2 * length bytes) ≡ same text (capitals bytes)
+  other_long ne = ne_eqb (length text) (2 * length bytes) ne ∙ not_same text (capitals bytes) (λ e. let l = ap length e in let m = capitals_long bytes in ne (omega arith))
 
-  pub other_long : (length text / 2 ≡ length bytes → ⊥) → false ≡ same text (capitals bytes)
-  other_long ne = not_same text (capitals bytes) (λ e. let l = ap length e in let m = capitals_long bytes in ne (omega arith))
-
-  pub other_digit : (k : ℕ) {c : ℕ} → c ≡ get_or (capitals bytes) k 0 → (get_or text k 0 ≡ c → ⊥) → false ≡ same text (capitals bytes)
-  other_digit k e ne = not_same text (capitals bytes) (λ q. ne (ap (λ (l : List ℕ). get_or l k 0) q ∙ sym e))
-
-  pub all_same :
-      (k : ℕ) → length text % 2 ≡ 0 → length text / 2 ≡ length bytes → length text ≤ k → ((j : ℕ) → j < k → get_or text j 0 ≡ get_or (capitals bytes) j 0)
-      → true ≡ same text (capitals bytes)
-  all_same k e l h f =
+  -- digit by digit, where there are as many
+  pub same_digits :
+      (n : ℕ) (r : Bool) → length text ≡ n → length text ≡ 2 * length bytes
+      → MatchBool r (AllWithin (λ (k : ℕ). get_or text k 0 ≡ get_or (capitals bytes) k 0) (range_with_len 0 n) 0 (length (range_with_len 0 n)))
+      ((i : ℕ) × (i < length (range_with_len 0 n)) × HoldsAt (λ (k : ℕ). get_or text k 0 ≡ get_or (capitals bytes) k 0 → ⊥) (range_with_len 0 n) i)
+      → r ≡ same text (capitals bytes)
+  same_digits n true e f h =
       let m = capitals_long bytes in
-      let q : text ≡ capitals bytes = ext_get_or 0 text (capitals bytes) (omega arith) (λ j g. f j (omega arith)) in
+      let l = length-range_with_len 0 n in
+      let q : text ≡ capitals bytes = ext_get_or 0 text (capitals bytes) (omega arith)
+      (λ j g. subst (λ (k : ℕ). get_or text k 0 ≡ get_or (capitals bytes) k 0) (get_or-range_with_len 0 n j 0 (omega arith) ∙ zero-add j) (h j 0 (omega arith) (omega arith))) in
       sym (rw q (same_self (capitals bytes)))
-
--- one digit more is the same
-pub same_more : (text t : List ℕ) (k : ℕ) {c : ℕ} → ((j : ℕ) → j < k → get_or text j 0 ≡ get_or t j 0) → c ≡ get_or t k 0 → get_or text k 0 ≡ c
-    → (j : ℕ) → j < k + 1 → get_or text j 0 ≡ get_or t j 0
-same_more text t k f e g j h = go (eqb j k) refl
-  where
-    go : (b : Bool) → eqb j k ≡ b → get_or text j 0 ≡ get_or t j 0
-    go true q = rw (eqb-true j k q) (g ∙ e)
-    go false q = f j (omega (arith, eqb-false j k q))
+  same_digits n false e f h = not_same text (capitals bytes) (λ q. h.2 0 (ap (λ (l : List ℕ). get_or l (get_or (range_with_len 0 n) h.0 0) 0) q))
 
 -- what is written can be read
 digit_letter : (d : ℕ) → d < 16 → digit_of (letter d) ≡ d

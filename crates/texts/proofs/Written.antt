@@ -7,6 +7,7 @@ use native.Mathlib.Omega.{arith}
 use native.Mathlib.Numerals.{add-one}
 use lib.ListN.{length, get_or, take, drop, set, length-append, length-drop, length-set}
 use lib.Seq.{paste, paste-suc, take-length, append_snoc, take_at, drop-append-add, drop-drop, set_split, length-take-le}
+use Rattle.std.proofs.lemmas.List.{take-append-drop}
 use Rattle.texts.specs.Decimal.{digits, most}
 use Rattle.layouts.specs.Lists.{put as put_at}
 use Rattle.texts.specs.Lines.{Part, bytes, line, wrote, written, subframe_parts, dsm_parts, totals_parts, refused_parts}
@@ -41,6 +42,10 @@ length_put m at s h =
     ∙ (let b = before m at s (omega arith) in let d = length-drop (at + length s) m in omega arith)
 
 -- byte by byte
+pub paste_none : (m : List ℕ) (at : ℕ) (s : List ℕ) → m ≡ paste m at s 0
+paste_none m at [] = let z : at + 0 ≡ at = omega arith in rw z (sym (append_assoc (take at m) [] (drop at m) ∙ take-append-drop at m))
+paste_none m at (c ∷ s) = let z : at + 0 ≡ at = omega arith in rw z (sym (append_assoc (take at m) [] (drop at m) ∙ take-append-drop at m))
+
 module _ (m : List ℕ) (at : ℕ) (s : List ℕ) (k : ℕ) {out : List ℕ} (e : out ≡ paste m at s k) where
   pub paste_more : {x : ℕ} → x ≡ get_or s k 0 → k < length s → at + length s ≤ length m → set out (at + k) x ≡ paste m at s (k + 1)
   paste_more q h g = rw (e, q, add-one k) (paste-suc m at s k 0 (omega arith) (omega arith))

@@ -2,6 +2,8 @@
 -- Assumes nothing.
 use Rattle.std.specs.Prelude.{ℕ, List}
 use Rattle.layouts.specs.Agree.{Agree, AgreeWith}
+use Rattle.layouts.specs.declared.gst.Stamp.{Stamp}
+use Rattle.texts.specs.declared.lines.Counted.{Counted}
 use Rattle.texts.specs.Arguments.{ReadDecimal, ReadArguments}
 use Rattle.texts.specs.Hexadecimal.{Spells}
 use Rattle.texts.specs.Puts.{PutWords, PutNumber, PutHexadecimal, PutNewline, ReadHexadecimal}
@@ -20,11 +22,11 @@ pub record Agreed : Type 0 where
   pub read_hexadecimal : (out : List ℕ) (at : ℕ) (text : List ℕ) → AgreeWith (ReadHexadecimal out at text)
   pub spells : (text bytes : List ℕ) → Agree (Spells text bytes)
   -- lines
-  pub subframe : (out : List ℕ) (satellite week time : ℕ) → AgreeWith (SubframeLine out satellite week time)
+  pub subframe : (out : List ℕ) (stamp : Stamp) → AgreeWith (SubframeLine out stamp)
   pub dsm : (out : List ℕ) (id bytes : ℕ) → AgreeWith (DsmLine out id bytes)
-  pub totals : (out : List ℕ) (pages skipped subframes dsms silent tail : ℕ) → AgreeWith (TotalsLine out pages skipped subframes dsms silent tail)
+  pub totals : (out : List ℕ) (counts : Counted) → AgreeWith (TotalsLine out counts)
   pub refused : (out : List ℕ) (n : ℕ) → AgreeWith (RefusedLine out n)
-  pub subframe_at : (out : List ℕ) (at satellite week time : ℕ) → AgreeWith (SubframeLineAt out at satellite week time)
+  pub subframe_at : (out : List ℕ) (at : ℕ) (stamp : Stamp) → AgreeWith (SubframeLineAt out at stamp)
   pub dsm_at : (out : List ℕ) (at id bytes : ℕ) → AgreeWith (DsmLineAt out at id bytes)
-  pub totals_at : (out : List ℕ) (at pages skipped subframes dsms silent tail : ℕ) → AgreeWith (TotalsLineAt out at pages skipped subframes dsms silent tail)
+  pub totals_at : (out : List ℕ) (at : ℕ) (counts : Counted) → AgreeWith (TotalsLineAt out at counts)
   pub refused_at : (out : List ℕ) (at n : ℕ) → AgreeWith (RefusedLineAt out at n)

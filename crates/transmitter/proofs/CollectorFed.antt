@@ -24,16 +24,18 @@ use Rattle.dsms.specs.DsmRecovery.{Call, is_admitted, fed_to, after, before, gro
 use Rattle.dsms.specs.DsmRecovery.{run_id, comes_out, Recovers, Viewed}
 use Rattle.dsms.specs.DsmHistory.{by_value}
 use Rattle.dsms.specs.declared.dsm.CollectDsm.{CollectDsm}
-use Rattle.dsms.proofs.Blocks.{counted_few, admitted, other_block, feed_taken, feed_refused}
+use Rattle.dsms.proofs.Blocks.{counted_few, lent, whole_block, other_block, feed_taken, feed_refused}
 use Rattle.dsms.proofs.DsmSound.{Sound, sound_fed}
 use Rattle.dsms.proofs.DsmRecovery.{dsm_recovers, dsm_shows}
 use Rattle.dsms.proofs.DsmHistory.{feeding_is, after_more, code_recovers, any_calls}
 use Rattle.transmitter.specs.Write.{Written, written, KrootValues, PkrValues, blocks, header, cut, cut_checks, kroot_message, kroot_checks, write_kroot}
 use Rattle.transmitter.specs.Write.{pkr_message, pkr_checks, write_pkr}
-use Rattle.transmitter.specs.WritePromises.{kroot_of, pkr_of, meaning_header, CutBlock}
+use Rattle.transmitter.specs.WritePromises.{kroot_of, pkr_of, CutBlock}
 use Rattle.transmitter.specs.Sending.{IsCut, Fed, idle, called, refused_one, misfit, viewed, among, all_of, ComesOut, Counted, AnyOrder, CollectorFed}
 use Rattle.transmitter.specs.inner.Parts.{over}
-use Rattle.transmitter.specs.declared.blocks.BlockHeader.TheVariants.{Byte, Refused}
+use Rattle.std.specs.Prelude.{Result, Ok, Err}
+use Rattle.layouts.specs.declared.refusal.Refusal.{Refusal}
+use Rattle.layouts.specs.declared.refusal.Refusal.TheVariants.{Argument}
 use Rattle.transmitter.specs.declared.blocks.BlockCut.{BlockCut}
 use Rattle.transmitter.proofs.Cutting.{cut_beyond, cut_number, cut_within, cut_given, cut_refused}
 use Rattle.transmitter.proofs.Putting.{kroot_blocks_few}
@@ -41,7 +43,7 @@ use Rattle.transmitter.proofs.PkrRefusals.{pkr_blocks_few}
 use Rattle.transmitter.proofs.Writes.{third_of, written_is, none_refused}
 use Rattle.transmitter.proofs.KrootBack.{KrootFacts, kroot_facts}
 use Rattle.transmitter.proofs.PkrBack.{PkrFacts, pkr_facts}
-use Rattle.transmitter.proofs.WriteUnique.{same_header}
+use Rattle.transmitter.proofs.WriteUnique.{same_cut}
 use Rattle.transmitter.proofs.SentCalls as sent_calls
 use Rattle.transmitter.proofs.SentCalls.{counted_more}
 
@@ -54,7 +56,7 @@ start : (s : State) (d : Call) (i : ℕ) → Sound s → (s.came && eqb s.id i) 
     → fed_to s d ≡ fed_to (new s.memory) d
 start s d i h e same b =
     let at : (t : State) → length t.memory ≡ 208 → t.id ≤ 15 → fed_to t d ≡ taken (begun t (id_of d.header)) (block_of d.header) d.block =
-    λ t m k. sym (feed_taken t d.header d.block (admitted t.id t.memory d.block m b k) refl refl refl refl refl) in
+    λ t m k. sym (feed_taken t d.header d.block (whole_block t.id t.memory d.block b (lent t.id t.memory m k)) refl refl refl refl) in
     at s h.d208 h.id_low
     ∙ ap (λ (t : State). taken t (block_of d.header) d.block) (ap (begun s) same ∙ anew s i e ∙ sym (ap (begun (new s.memory)) same))
     ∙ sym (at (new s.memory) h.d208 (omega arith))
@@ -63,7 +65,7 @@ start s d i h e same b =
 refused_call : (s : State) (d : Call) → length s.memory ≡ 208 → is_admitted d ≡ false → (fed_to s d).state ≡ s
 refused_call s d l e =
     sym (ap (λ (f : dsm.Fed). f.state)
-    (feed_refused s d.header d.block (other_block s.id s.memory d.block l (eqb-false (length d.block) 13 e))
+    (feed_refused s d.header d.block (other_block s.id s.memory d.block (eqb-false (length d.block) 13 e))
     (λ z. absurd (omega (arith, z)))))
 
 module _ (sent : List ℕ) (id : ℕ) (long : length sent ≡ 208) (few : id ≤ 15) where
@@ -82,20 +84,18 @@ module _ (sent : List ℕ) (id : ℕ) (long : length sent ≡ 208) (few : id ≤
     unfolding packed_on
     is_cut =
         let low : k ≤ 15 = omega (arith, counted_few (dsm_type_of id) sent) in
-        cut_given sent id k (cut_within sent id k long few low refl (λ z. omega arith) h) refl (omega arith) refl
+        cut_given sent id k (cut_within sent id k long few low refl (λ z. omega arith) h) (omega arith) refl
 
-  within : (k : ℕ) (b : BlockCut) → k < c# → CutBlock sent id k b → (b.answer ≡ Byte (16 * id + k)) × (b.bytes ≡ take 13 (drop (13 * k) sent))
-  within k b h p =
-      let e = p ∙ sym (is_cut k h) in
-      let turn : id * 16 + k ≡ 16 * id + k = omega arith in (
-        same_header b.answer (Byte (16 * id + k)) (ap (λ (c : Copied). c.answer) e ∙ ap (λ (n : ℕ). gives (n ∷ [])) turn),
-        ap (λ (c : Copied). c.bytes) e,
-      )
+  within : (k : ℕ) (r : Result BlockCut Refusal) → k < c# → CutBlock sent id k r
+      → r ≡ Ok (record { header = 16 * id + k; bytes = take 13 (drop (13 * k) sent) })
+  within k r h p =
+      let turn : id * 16 + k ≡ 16 * id + k = omega arith in
+      same_cut r (Ok (record { header = 16 * id + k; bytes = take 13 (drop (13 * k) sent) }))
+      (p ∙ sym (is_cut k h) ∙ ap (λ (n : ℕ). record { answer = gives (n ∷ []); bytes = take 13 (drop (13 * k) sent) }) turn)
 
-  beyond : (k : ℕ) (b : BlockCut) → c# ≤ k → 0 < c# → CutBlock sent id k b → b.answer ≡ Refused 7
-  beyond k b h some p =
-      same_header b.answer (Refused 7)
-      (ap (λ (c : Copied). c.answer) (p ∙ sym (cut_refused sent id k (seven (ltb 15 k) refl) (λ z. absurd (omega (arith, z))))))
+  beyond : (k : ℕ) (r : Result BlockCut Refusal) → c# ≤ k → 0 < c# → CutBlock sent id k r → r ≡ Err Argument
+  beyond k r h some p =
+      same_cut r (Err Argument) (p ∙ sym (cut_refused sent id k (seven (ltb 15 k) refl) (λ z. absurd (omega (arith, z)))))
     where
       seven : (x : Bool) → ltb 15 k ≡ x → 7 ≡ refusal (cut_checks sent id k)
       seven true q = cut_number sent id k long few (ltb-true 15 k q)
@@ -104,7 +104,7 @@ module _ (sent : List ℕ) (id : ℕ) (long : length sent ≡ 208) (few : id ≤
   -- a block that was cut is a counted one, and is fed as its call
   module _ (k : ℕ) (d : Call) (x : IsCut sent id k d) where
     given : (cut sent id k).answer ≡ gives (d.header ∷ [])
-    given = sym (ap (λ (c : Copied). c.answer) x.1) ∙ ap meaning_header x.2
+    given = sym (ap (λ (c : Copied). c.answer) x)
 
     counted_one : k < c#
     unfolding cut
@@ -115,7 +115,7 @@ module _ (sent : List ℕ) (id : ℕ) (long : length sent ≡ 208) (few : id ≤
     its_call =
         let same : d.header ≡ id * 16 + k = first_gives (sym given ∙ sym (ap (λ (c : Copied). c.answer) (is_cut k counted_one))) in
         let block : d.block ≡ take 13 (drop (13 * k) sent) =
-        sym x.3 ∙ ap (λ (c : Copied). c.bytes) x.1 ∙ sym (ap (λ (c : Copied). c.bytes) (is_cut k counted_one)) in
+        ap (λ (c : Copied). c.bytes) x ∙ sym (ap (λ (c : Copied). c.bytes) (is_cut k counted_one)) in
         ap (λ (n : ℕ). made n d.block) same ∙ ap (made (id * 16 + k)) block
       where
         first_gives : {a b : ℕ} → gives (a ∷ []) ≡ gives (b ∷ []) → a ≡ b
@@ -268,12 +268,7 @@ module _ (sent : List ℕ) (id : ℕ) (long : length sent ≡ 208) (few : id ≤
 -- No order is ruled out.
 module _ (sent : List ℕ) (id : ℕ) (long : length sent ≡ 208) (few : id ≤ 15) where
   one_cut : (k : ℕ) → k < blocks sent id → IsCut sent id k (call sent id long few k)
-  one_cut k h = (
-    record { answer = Byte (id * 16 + k); bytes = take 13 (drop (13 * k) sent) },
-    is_cut sent id long few k h,
-    refl,
-    refl,
-  )
+  one_cut k h = is_cut sent id long few k h
 
   any_more : (ns : List ℕ) {c : CollectDsm} {memory ms : List ℕ} → Fed sent id c memory ms → Counted (blocks sent id) ns
       → (c' : CollectDsm) × (memory' : List ℕ) × Fed sent id c' memory' (ms ++ ns)

@@ -5,41 +5,47 @@ use mathlib.Core.List.{List, [], ◌∷◌}
 use mathlib.Core.Bool.{not}
 use Prim.Native.Nat.{ℕ, zero, suc, ◌+◌, ◌*◌, ◌≤◌, ◌<◌}
 use native.Mathlib.Omega.{arith}
-use lib.Dec.{eqb-suc-zero}
+use lib.Dec.{eqb, eqb-suc-zero}
 use lib.ListN.{length, take, drop, replicate}
-use borrow.Author.Tests.{ltb-false, eqb-true, lt-ltb, le-ltb, eq-eqb, ne_eqb, not-false}
-use Rattle.layouts.specs.Answer.{refused, gives, refusal, answered, Copied, answered_with}
-use Rattle.layouts.specs.Bits.{the}
+use borrow.Author.Tests.{ltb-false, eqb-true, lt-ltb, le-ltb, ne_eqb, not-false}
+use Rattle.layouts.specs.Answer.{refused, gives, ◌when◌, refusal, answered, Copied, answered_with}
+use Rattle.layouts.specs.Bits.{Field, the, value}
 use Rattle.layouts.specs.Sizes.{size, kroot_blocks, pkr_blocks, read_size}
 use Rattle.layouts.specs.DsmKroot.{kroot_layout}
 use Rattle.layouts.specs.DsmPkr.{pkr_layout}
 use Rattle.layouts.specs.Meaning.{meaning_number}
-use Rattle.layouts.specs.declared.answer.Number.{Number}
-use Rattle.layouts.specs.declared.answer.Number.TheVariants.{Value, Refused}
+use Rattle.layouts.proofs.Unique.{numbers}
 use Rattle.layouts.proofs.Answers.{Passed, none_fails, stop_n, pass_n, none_n, differs, equals}
 use Rattle.dsms.specs.Dsm.{counted}
-use Rattle.dsms.proofs.Blocks.{size_given, size_none}
+use Rattle.std.specs.Prelude.{Result, Err}
+use Rattle.std.specs.Result.{IsErrAnd}
+use Rattle.layouts.specs.Refusals.{refusal_number, refused_by}
+use Rattle.layouts.specs.declared.refusal.Refusal.{Refusal}
+use Rattle.layouts.proofs.Refused.{number_some, carried}
+use Rattle.transmitter.specs.WritePromises.{meaning_cut}
+use Rattle.transmitter.specs.inner.Parts.{sized}
+use Rattle.transmitter.specs.declared.blocks.BlockCut.{BlockCut}
+use Rattle.transmitter.proofs.Rows.{sized_stop}
 use Rattle.transmitter.specs.Write.{header, cut, cut_checks, blocks}
 
--- the count of byte 0, by the reader of `layouts`
-module _ (m : List ℕ) (id : ℕ) (l : length m ≡ 208) {x : Number} {n : ℕ} where
-  module _ (h : id < 12) (e : meaning_number x ≡ read_size (the "NB_DK" kroot_layout) (size kroot_blocks) m) where
-    pub kroot_counted : x ≡ Value n → n ≡ blocks m id
-    unfolding counted
-    kroot_counted g = rw (lt-ltb id 12 h) (size_given (the "NB_DK" kroot_layout) (size kroot_blocks) m e g)
+-- a count, as the readers of `layouts` answer it
+sized_means : (k : ℕ) → meaning_number (sized k) ≡ answered (refusal (6 when eqb k 0 ∷ [])) (gives (k ∷ []))
+unfolding refusal answered
+sized_means zero = refl
+sized_means (suc k) = rw eqb-suc-zero
 
-    pub kroot_uncounted : x ≡ Refused n → 0 ≡ blocks m id
-    unfolding counted
-    kroot_uncounted g = rw (lt-ltb id 12 h) (size_none (the "NB_DK" kroot_layout) (size kroot_blocks) m (omega arith) e g)
+sized_read : (f : Field) (g : ℕ → ℕ) (m : List ℕ) → f.first + f.width ≤ 8 * length m → meaning_number (sized (g (value f m))) ≡ read_size f g m
+unfolding refusal
+sized_read f g m l = rw (le-ltb (8 * length m) (f.first + f.width) l) (sized_means (g (value f m)))
 
-  module _ (h : 12 ≤ id) (e : meaning_number x ≡ read_size (the "NB_DP" pkr_layout) (size pkr_blocks) m) where
-    pub pkr_counted : x ≡ Value n → n ≡ blocks m id
-    unfolding counted
-    pkr_counted g = rw (le-ltb id 12 h) (size_given (the "NB_DP" pkr_layout) (size pkr_blocks) m e g)
+module _ (m : List ℕ) (id : ℕ) (l : length m ≡ 208) (x : Result ℕ Refusal) where
+  pub kroot_counted : id < 12 → meaning_number x ≡ read_size (the "NB_DK" kroot_layout) (size kroot_blocks) m → x ≡ sized (blocks m id)
+  unfolding counted
+  kroot_counted h e = rw (lt-ltb id 12 h) (numbers _ x _ e (sized_read (the "NB_DK" kroot_layout) (size kroot_blocks) m (omega arith)))
 
-    pub pkr_uncounted : x ≡ Refused n → 0 ≡ blocks m id
-    unfolding counted
-    pkr_uncounted g = rw (le-ltb id 12 h) (size_none (the "NB_DP" pkr_layout) (size pkr_blocks) m (omega arith) e g)
+  pub pkr_counted : 12 ≤ id → meaning_number x ≡ read_size (the "NB_DP" pkr_layout) (size pkr_blocks) m → x ≡ sized (blocks m id)
+  unfolding counted
+  pkr_counted h e = rw (le-ltb id 12 h) (numbers _ x _ e (sized_read (the "NB_DP" pkr_layout) (size pkr_blocks) m (omega arith)))
 
 module _ (memory : List ℕ) (id n : ℕ) where
   pub cut_memory : (length memory ≡ 208 → ⊥) → 1 ≡ refusal (cut_checks memory id n)
@@ -57,9 +63,6 @@ module _ (memory : List ℕ) (id n : ℕ) where
         go₃ : {r : ℕ} → r ≡ refusal (drop 3 (cut_checks memory id n)) → r ≡ refusal (cut_checks memory id n)
         go₃ h = pass_n 1 _ _ (equals (length memory) 208 h₁) (pass_n 7 _ _ (le-ltb 15 id h₂) (pass_n 7 _ _ (le-ltb 15 n h₃) h))
 
-        pub cut_count : c ≡ 0 → 6 ≡ refusal (cut_checks memory id n)
-        cut_count h = go₃ (stop_n 6 _ _ (eq-eqb (blocks memory id) 0 (sym e ∙ h)))
-
         module _ (h₄ : c ≡ 0 → ⊥) where
           go₄ : {r : ℕ} → r ≡ refusal (drop 4 (cut_checks memory id n)) → r ≡ refusal (cut_checks memory id n)
           go₄ h = go₃ (pass_n 6 _ _ (ne_eqb (blocks memory id) 0 (λ z. h₄ (e ∙ z))) h)
@@ -69,6 +72,12 @@ module _ (memory : List ℕ) (id n : ℕ) where
 
           pub cut_within : n < c → 0 ≡ refusal (cut_checks memory id n)
           cut_within h = go₄ (pass_n 7 _ _ (ap not (lt-ltb n (blocks memory id) (omega arith))) none_n)
+
+  pub cut_reserved : {A : Type 0} (r : Result A Refusal) (e : Refusal) → IsErrAnd r (λ (f : Refusal). f ≡ e) → length memory ≡ 208 → id ≤ 15 → n ≤ 15
+      → Err e ≡ sized (blocks memory id) → refused_by r ≡ refusal (cut_checks memory id n)
+  cut_reserved r e i h₁ h₂ h₃ h =
+      pass_n 1 _ _ (equals (length memory) 208 h₁)
+      (pass_n 7 _ _ (le-ltb 15 id h₂) (pass_n 7 _ _ (le-ltb 15 n h₃) (sized_stop (blocks memory id) _ r e i h)))
 
   module _ {q : ℕ} (e : q ≡ refusal (cut_checks memory id n)) where
     pub cut_refused : (q ≡ 0 → ⊥) → ◌≡◌ {A = Copied} (record { answer = refused q; bytes = replicate 13 0 }) (cut memory id n)
@@ -81,20 +90,24 @@ module _ (memory : List ℕ) (id n : ℕ) where
         go zero e ne = absurd (ne refl)
         go (suc q) e ne = rw (e, eqb-suc-zero)
 
-    module _ (z : q ≡ 0) where
-      checked : Passed (cut_checks memory id n)
-      checked = none_fails (cut_checks memory id n) tt (sym e ∙ z)
+  pub cut_err : (r : Result BlockCut Refusal) (e : Refusal) → IsErrAnd r (λ (f : Refusal). f ≡ e) → refusal_number e ≡ refusal (cut_checks memory id n)
+      → meaning_cut r ≡ cut memory id n
+  cut_err r e i h = ap meaning_cut (carried r i) ∙ cut_refused h (number_some e)
 
-      pub cut_id_few : id ≤ 15
-      cut_id_few = ltb-false 15 id checked.1.0
+  module _ (e : 0 ≡ refusal (cut_checks memory id n)) where
+    checked : Passed (cut_checks memory id n)
+    checked = none_fails (cut_checks memory id n) tt (sym e)
 
-      pub cut_few : n ≤ 15
-      cut_few = ltb-false 15 n checked.1.1.0
+    pub cut_id_few : id ≤ 15
+    cut_id_few = ltb-false 15 id checked.1.0
 
-      pub cut_fits : 13 * n + 13 ≤ length memory
-      cut_fits = omega (arith, eqb-true (length memory) 208 (not-false _ checked.0), cut_few)
+    pub cut_few : n ≤ 15
+    cut_few = ltb-false 15 n checked.1.1.0
 
-      pub cut_given : {h : ℕ} {l : List ℕ} → h ≡ header id n → l ≡ take 13 (drop (13 * n) memory)
-          → ◌≡◌ {A = Copied} (record { answer = gives (h ∷ []); bytes = l }) (cut memory id n)
-      unfolding cut answered
-      cut_given eh el = rw (sym e ∙ z, el, eh)
+    pub cut_fits : 13 * n + 13 ≤ length memory
+    cut_fits = omega (arith, eqb-true (length memory) 208 (not-false _ checked.0), cut_few)
+
+    pub cut_given : {h : ℕ} {l : List ℕ} → h ≡ header id n → l ≡ take 13 (drop (13 * n) memory)
+        → ◌≡◌ {A = Copied} (record { answer = gives (h ∷ []); bytes = l }) (cut memory id n)
+    unfolding cut answered
+    cut_given eh el = rw (sym e, el, eh)

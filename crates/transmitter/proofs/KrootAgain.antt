@@ -8,13 +8,13 @@ use native.Mathlib.Omega.{arith}
 use lib.Dec.{eqb}
 use lib.ListN.{length, take, drop, get_or, length-drop}
 use lib.Seq.{take-add, take_all, length-take-le}
-use borrow.Author.Tests.{ltb-false, eqb-true, eqb-false}
+use borrow.Author.Tests.{ltb-false, eqb-true, eqb-false, ne_eqb}
 use Rattle.layouts.specs.Answer.{nothing, gives, ◌when◌, refusal, shown}
 use Rattle.layouts.specs.Bits.{field, Field, the, value, reach}
 use Rattle.layouts.specs.Sizes.{size, kroot_blocks, key_sizes, tag_sizes}
 use Rattle.layouts.specs.DsmKroot.{kroot_layout, key_bytes, kroot_part, padding_to_block, signature_length, signature_bytes, signature_checks, signature_part}
 use Rattle.layouts.specs.DsmKroot.{ecdsa_function, padding_part}
-use Rattle.layouts.proofs.Answers.{Passed, none_fails}
+use Rattle.layouts.proofs.Answers.{Passed, none_fails, pass_n}
 use Rattle.layouts.proofs.Kroot.{padding_few, signature_fits}
 use Rattle.runs.proofs.Basics.{and_true}
 use Rattle.layouts.specs.Packed.{packed_on, bytes_of, too_wide}
@@ -23,7 +23,7 @@ use Rattle.transmitter.specs.WriteBack.{Bytes, given, all_given, kroot_answers, 
 use Rattle.transmitter.proofs.Rows.{more}
 use Rattle.transmitter.proofs.Writes.{written_is}
 use Rattle.transmitter.proofs.KrootBack.{shown_of}
-use Rattle.transmitter.proofs.KrootRefusals.{kroot_filled}
+use Rattle.transmitter.proofs.KrootRefusals.{kroot_sizes, kroot_filled}
 use Rattle.transmitter.proofs.Again.{packed_back, values_narrow, bytes_back, given_at, given_none, given_is}
 
 -- a signature that is found leaves a padding below a block
@@ -166,17 +166,18 @@ module _ (m : List ℕ) (good : is_good_kroot m ≡ true) where
         let lk : length key ≡ k = long_part m 13 k (omega (arith, all_of_it)) in
         let ls : length signature ≡ s = long_part m (13 + k) s (omega (arith, all_of_it)) in
         let lp : length padding ≡ rest = long_part m (13 + k + s) rest (omega (arith, all_of_it)) in
-        kroot_filled memory id (kroot_read m) key signature padding long
+        kroot_sizes memory id (kroot_read m) key signature padding long
         refl (ap not (ap (λ (n : ℕ). eqb n 64 || eqb n 132) ls ∙ signature_either k (length m - (13 + k)) signature_some))
         refl (ap (too_wide kroot_layout) numbers_are ∙ values_narrow m kroot_layout)
         (omega arith)
-        refl (λ z. count_some (sym (ap (size kroot_blocks) (says 0)) ∙ z))
-        refl (λ z. key_some (sym (ap (size key_sizes) (says 6)) ∙ z))
-        refl (λ z. tag_some (sym (ap (size tag_sizes) (says 7)) ∙ z))
+        (pass_n 6 _ _ (ne_eqb (size kroot_blocks (kroot_read m).nb_dk) 0 (λ z. count_some (sym (ap (size kroot_blocks) (says 0)) ∙ z)))
+        (pass_n 6 _ _ (ne_eqb (size key_sizes (kroot_read m).ks) 0 (λ z. key_some (sym (ap (size key_sizes) (says 6)) ∙ z)))
+        (pass_n 6 _ _ (ne_eqb (size tag_sizes (kroot_read m).ts) 0 (λ z. tag_some (sym (ap (size tag_sizes) (says 7)) ∙ z)))
+        (kroot_filled memory id (kroot_read m) key signature padding refl refl
         (lk ∙ sym (ap (size key_sizes) (says 6)))
         (omega (arith, lp, rest_few))
         (ap (λ (n : ℕ). 13 + n + length signature + length padding) (ap (size key_sizes) (says 6)) ∙ omega (arith, ls, lp, all_of_it, whole) ∙ ap
-        (λ (n : ℕ). 13 * size kroot_blocks n) (sym (says 0)))
+        (λ (n : ℕ). 13 * size kroot_blocks n) (sym (says 0)))))))
 
     message_is : kroot_message (kroot_read m) key signature padding ≡ m
     unfolding kroot_message

@@ -2,18 +2,23 @@
 -- Assumes nothing.
 use mathlib.Core.Path.{◌≡◌, refl, sym, ap, ◌∙◌}
 use mathlib.Core.List.{List, [], ◌∷◌, ◌++◌}
-use mathlib.Core.Bool.{true}
+use mathlib.Core.Bool.{true, not}
+use Rattle.std.specs.Prelude.{Some, Result, Ok}
 use Prim.Native.Nat.{ℕ, ◌+◌, ◌-◌, ◌*◌, ◌≤◌, ◌<◌}
 use native.Mathlib.Omega.{arith}
 use lib.Dec.{ltb, eqb}
 use lib.ListN.{length, take, drop, get_or}
 use lib.Seq.{take-add, take_all, drop-drop}
-use borrow.Author.Tests.{ltb-false, eqb-true, eqb-false}
-use Rattle.layouts.specs.Answer.{nothing, gives, ◌when◌, refusal, shown, Copied}
+use borrow.Author.Tests.{ltb-false, eqb-true, eqb-false, eq-eqb}
+use Rattle.layouts.specs.Answer.{nothing, gives, ◌when◌, refusal, shown, Copied, copied}
 use Rattle.layouts.specs.Bits.{field, the, value, reach}
-use Rattle.layouts.specs.DsmPkr.{pkr_layout, count, key_bytes, new_key_part, padding_checks, padding_part}
+use Rattle.layouts.specs.DsmPkr.{pkr_layout, count, key_bytes, node_part, IntermediateTreeNode, new_key_part, padding_checks, padding_part}
+use Rattle.layouts.specs.declared.dsm_pkr.TreeNode.{TreeNode}
+use Rattle.layouts.specs.declared.refusal.Refusal.{Refusal}
+use Rattle.layouts.proofs.Unique.{agreed}
 use Rattle.layouts.proofs.Answers.{Passed, none_fails, copied_bytes}
 use Rattle.layouts.proofs.Pkr.{node_there}
+use Rattle.layouts.proofs.Options.{some_size}
 use Rattle.runs.proofs.Basics.{and_true}
 use Rattle.layouts.specs.Packed.{packed_on, bytes_of}
 use Rattle.transmitter.specs.Write.{pkr_rows, pkr_first, pkr_second, pkr_message, pkr_checks, write_pkr}
@@ -41,6 +46,10 @@ parts m k p h =
     ∙ ap (λ (l : List ℕ). l ++ take p (drop (130 + k) m)) (sym (take-add 130 k m))
     ∙ sym (take-add (130 + k) p m)
     ∙ take_all (130 + k + p) m (omega arith)
+
+-- a node, where it lies and its bytes
+abbrev pub node_of : List ℕ → ℕ → TreeNode
+node_of m k = record { part = record { first = 1 + 32 * k; many = 32 }; bytes = take 32 (drop (1 + 32 * k) m) }
 
 module _ (m : List ℕ) (good : is_good_pkr m ≡ true) where
   halves : (all_given (pkr_answers m) ≡ true) × (eqb (length m) (13 * count m) ≡ true)
@@ -88,8 +97,15 @@ module _ (m : List ℕ) (good : is_good_pkr m ≡ true) where
   unfolding padding_part
   padding_is = shown_of m (given_is _ ((130 + key_bytes m) ∷ rest ∷ []) (at 12 (omega arith)))
 
-  node_is : (k : ℕ) → k ≤ 3 → node m k ≡ take 32 (drop (1 + 32 * k) m)
-  node_is k h = sym (ap (λ (c : Copied). c.bytes) (copied_bytes 32 m (node_there m k h (omega (arith, head_there))) refl))
+  node_copied : (k : ℕ) → k ≤ 3
+      → ◌≡◌ {A = Copied} (record { answer = gives ((1 + 32 * k) ∷ 32 ∷ []); bytes = (node_of m k).bytes }) (copied 32 m (node_part m k))
+  node_copied k h = copied_bytes 32 m (node_there m k h (omega (arith, head_there))) refl
+
+  pub node_is : (k : ℕ) → k ≤ 3 → node m k ≡ (node_of m k).bytes
+  node_is k h = sym (ap (λ (c : Copied). c.bytes) (node_copied k h))
+
+  pub node_read : (k : ℕ) → k ≤ 3 → (x : Result TreeNode Refusal) → IntermediateTreeNode m k x → x ≡ Ok (node_of m k)
+  node_read k h x p = agreed.pkr_intermediate_tree_node m k x (Ok (node_of m k)) p (node_copied k h)
 
   nodes_are : node m 0 ++ node m 1 ++ node m 2 ++ node m 3 ≡ take 128 (drop 1 m)
   nodes_are =
@@ -135,10 +151,8 @@ module _ (m : List ℕ) (good : is_good_pkr m ≡ true) where
         low
         (omega arith)
         refl count_some
-        refl key_some
-        lk
-        key_ends
-        lp
+        (some_size refl key_some) refl
+        lk (Some (length padding)) (key_ends, lp) refl (ap not (eq-eqb (length padding) (length padding) refl))
 
     message_is : pkr_message (pkr_read m) nodes key padding ≡ m
     unfolding pkr_message

@@ -6,11 +6,17 @@ use mathlib.Core.Bool.{Bool, true, false, cond, not}
 use Prim.Native.Nat.{ℕ, zero, suc, ◌+◌, ◌*◌, ◌^◌, ◌≤◌, ◌<◌}
 use native.Mathlib.Nat.{le_of_suc-le-suc, not-suc-le-zero}
 use native.Mathlib.Omega.{arith}
-use lib.Dec.{ltb, eqb, eqb-suc-zero}
+use lib.Dec.{ltb, eqb}
 use lib.ListN.{length, get_or, take, drop, length-append}
 use lib.Seq.{take_at, drop-append-add, drop-drop}
-use borrow.Author.Tests.{ltb-false, eqb-true, lt-ltb, le-ltb, not-false}
-use Rattle.layouts.specs.Answer.{refused, gives, Check, refusal}
+use borrow.Author.Tests.{ltb-false, eqb-true, lt-ltb, le-ltb, ne_eqb, not-false}
+use Rattle.std.specs.Prelude.{Result}
+use Rattle.std.specs.Result.{IsErrAnd}
+use Rattle.layouts.specs.Refusals.{refusal_number}
+use Rattle.layouts.specs.declared.refusal.Refusal.{Refusal}
+use Rattle.layouts.proofs.Refused.{number_some, carried}
+use Rattle.dsms.specs.declared.dsm.CompleteDsm.{CompleteDsm}
+use Rattle.layouts.specs.Answer.{gives, Check, refusal}
 use Rattle.layouts.specs.Bits.{Field, row}
 use Rattle.layouts.specs.Sizes.{size, kroot_blocks, pkr_blocks}
 use Rattle.layouts.specs.DsmHeader.{dsm_type_of}
@@ -20,7 +26,7 @@ use Rattle.layouts.specs.Packed.{too_wide, bytes_of, packed_on}
 use Rattle.transmitter.specs.Write.{Written, written, KrootValues, kroot_numbers, kroot_message, kroot_checks, write_kroot, pkr_rows, pkr_numbers}
 use Rattle.transmitter.specs.Write.{pkr_first, pkr_second}
 use Rattle.transmitter.specs.Write.{PkrValues, pkr_message, pkr_checks, write_pkr}
-use Rattle.transmitter.specs.WritePromises.{kroot_of, pkr_of}
+use Rattle.transmitter.specs.WritePromises.{kroot_of, pkr_of, meaning_written}
 use Rattle.transmitter.specs.inner.Parts.{put_at, over, Narrow, Halves}
 use Rattle.transmitter.specs.declared.kroot.KrootValues.{KrootValues as KrootNumbers}
 use Rattle.transmitter.specs.declared.pkr.PkrValues.{PkrValues as PkrNumbers}
@@ -66,17 +72,18 @@ kroot_put v key signature padding d h {k = k} {s = s} n l ea eb ec ee ek ef es =
     sf ∙ ap (λ (x : List ℕ). over (x ++ key ++ signature ++ padding) d) (sym (head_apart (packed_on 0 kroot_layout (kroot_numbers v)) h v.alpha n l))
 
 -- a write that is refused, and one that is not
-pub write_refused : (checks : List Check) (memory message : List ℕ) (id : ℕ) {q : ℕ} → q ≡ refusal checks → (q ≡ 0 → ⊥)
-    → ◌≡◌ {A = Written} (record { memory = memory; answer = refused q }) (written checks memory message id)
+pub write_refused : (checks : List Check) (memory message : List ℕ) (id : ℕ) (r : Result CompleteDsm Refusal) (e : Refusal)
+    → IsErrAnd r (λ (f : Refusal). f ≡ e) → refusal_number e ≡ refusal checks
+    → ◌≡◌ {A = Written} (record { memory = memory; answer = meaning_written r }) (written checks memory message id)
 unfolding written
-write_refused checks memory message id {q = zero} e ne = absurd (ne refl)
-write_refused checks memory message id {q = suc q} e ne = rw (← e, eqb-suc-zero)
+write_refused checks memory message id r e i h =
+    rw (carried r i, ← h, ne_eqb (refusal_number e) 0 (number_some e))
 
-pub write_done : (checks : List Check) (memory message : List ℕ) (id t : ℕ) {q n : ℕ} {after : List ℕ} → q ≡ refusal checks → q ≡ 0
+pub write_done : (checks : List Check) (memory message : List ℕ) (id t : ℕ) {n : ℕ} {after : List ℕ} → 0 ≡ refusal checks
     → after ≡ over message memory → dsm_type_of id ≡ t → n ≡ length message
     → ◌≡◌ {A = Written} (record { memory = after; answer = gives (id ∷ t ∷ n ∷ []) }) (written checks memory message id)
-write_done checks memory message id t e z a d l =
-    rw (a, ← d, l) (sym (written_is checks memory message id (sym e ∙ z)))
+write_done checks memory message id t e a d l =
+    rw (a, ← d, l) (sym (written_is checks memory message id (sym e)))
 
 pub kroot_blocks_few : (n : ℕ) → size kroot_blocks n ≤ 14
 unfolding kroot_blocks
@@ -121,10 +128,10 @@ narrow v e =
     }
 
 -- what a KROOT message that is not refused meets
-module _ (memory : List ℕ) (id : ℕ) (v : KrootNumbers) (key signature padding : List ℕ) {q : ℕ}
-    (e : q ≡ refusal (kroot_checks memory id (kroot_of v) key signature padding)) (z : q ≡ 0) where
+module _ (memory : List ℕ) (id : ℕ) (v : KrootNumbers) (key signature padding : List ℕ)
+    (e : 0 ≡ refusal (kroot_checks memory id (kroot_of v) key signature padding)) where
   checked : Passed (kroot_checks memory id (kroot_of v) key signature padding)
-  checked = none_fails (kroot_checks memory id (kroot_of v) key signature padding) tt (sym e ∙ z)
+  checked = none_fails (kroot_checks memory id (kroot_of v) key signature padding) tt (sym e)
 
   pub kroot_narrow : Narrow v
   kroot_narrow = narrow v checked.1.1.0
@@ -151,19 +158,19 @@ length_kroot : (v : KrootValues) (key signature padding : List ℕ)
 unfolding kroot_message
 length_kroot v key signature padding = simp length-append (omega (arith, length_bytes 13 (packed_on 0 kroot_layout (kroot_numbers v))))
 
-pub kroot_refused : (memory : List ℕ) (id : ℕ) (v : KrootValues) (key signature padding : List ℕ) {q : ℕ}
-    → q ≡ refusal (kroot_checks memory id v key signature padding) → (q ≡ 0 → ⊥)
-    → ◌≡◌ {A = Written} (record { memory = memory; answer = refused q }) (write_kroot memory id v key signature padding)
+pub kroot_refused : (memory : List ℕ) (id : ℕ) (v : KrootValues) (key signature padding : List ℕ) (r : Result CompleteDsm Refusal) (e : Refusal)
+    → IsErrAnd r (λ (f : Refusal). f ≡ e) → refusal_number e ≡ refusal (kroot_checks memory id v key signature padding)
+    → ◌≡◌ {A = Written} (record { memory = memory; answer = meaning_written r }) (write_kroot memory id v key signature padding)
 unfolding write_kroot
-kroot_refused memory id v key signature padding e ne = write_refused _ memory _ id e ne
+kroot_refused memory id v key signature padding r e i h = write_refused _ memory _ id r e i h
 
-pub kroot_written : (memory : List ℕ) (id : ℕ) (v : KrootValues) (key signature padding : List ℕ) {q n : ℕ} {after : List ℕ}
-    → q ≡ refusal (kroot_checks memory id v key signature padding) → q ≡ 0
+pub kroot_written : (memory : List ℕ) (id : ℕ) (v : KrootValues) (key signature padding : List ℕ) {n : ℕ} {after : List ℕ}
+    → 0 ≡ refusal (kroot_checks memory id v key signature padding)
     → after ≡ over (kroot_message v key signature padding) memory → id ≤ 11 → n ≡ 13 + length key + length signature + length padding
     → ◌≡◌ {A = Written} (record { memory = after; answer = gives (id ∷ 0 ∷ n ∷ []) }) (write_kroot memory id v key signature padding)
 unfolding write_kroot
-kroot_written memory id v key signature padding e z a h n =
-    write_done _ memory (kroot_message v key signature padding) id 0 e z a (ap (λ (b : Bool). cond b 0 1) (lt-ltb id 12 (omega arith)))
+kroot_written memory id v key signature padding e a h n =
+    write_done _ memory (kroot_message v key signature padding) id 0 e a (ap (λ (b : Bool). cond b 0 1) (lt-ltb id 12 (omega arith)))
     (n ∙ sym (length_kroot v key signature padding))
 
 -- the same of a PKR message
@@ -188,10 +195,10 @@ pkr_put v nodes key padding d x y {k = k} n ex ey ea eb ec ee ef ek =
     sf ∙ ap (λ (n : ℕ). over (bytes_of 1 n ++ nodes ++ q ++ key ++ padding) d) ex
     ∙ ap (λ (n : ℕ). over (bytes_of 1 (packed_on 0 pkr_first (v.nb_dp ∷ v.mid ∷ [])) ++ nodes ++ bytes_of 1 n ++ key ++ padding) d) ey
 
-module _ (memory : List ℕ) (id : ℕ) (v : PkrNumbers) (nodes key padding : List ℕ) {q : ℕ} (e : q ≡ refusal (pkr_checks memory id (pkr_of v) nodes key padding))
-    (z : q ≡ 0) where
+module _ (memory : List ℕ) (id : ℕ) (v : PkrNumbers) (nodes key padding : List ℕ)
+    (e : 0 ≡ refusal (pkr_checks memory id (pkr_of v) nodes key padding)) where
   pkr_checked : Passed (pkr_checks memory id (pkr_of v) nodes key padding)
-  pkr_checked = none_fails (pkr_checks memory id (pkr_of v) nodes key padding) tt (sym e ∙ z)
+  pkr_checked = none_fails (pkr_checks memory id (pkr_of v) nodes key padding) tt (sym e)
 
   pub pkr_halves : Halves v
   pkr_halves =
@@ -226,17 +233,17 @@ length_pkr v nodes key padding h =
     simp length-append
     (omega (arith, length_bytes 1 (packed_on 0 pkr_first (v.nb_dp ∷ v.mid ∷ [])), length_bytes 1 (packed_on 0 pkr_second (v.npkt ∷ v.npkid ∷ []))))
 
-pub pkr_refused : (memory : List ℕ) (id : ℕ) (v : PkrValues) (nodes key padding : List ℕ) {q : ℕ} → q ≡ refusal (pkr_checks memory id v nodes key padding)
-    → (q ≡ 0 → ⊥)
-    → ◌≡◌ {A = Written} (record { memory = memory; answer = refused q }) (write_pkr memory id v nodes key padding)
+pub pkr_refused : (memory : List ℕ) (id : ℕ) (v : PkrValues) (nodes key padding : List ℕ) (r : Result CompleteDsm Refusal) (e : Refusal)
+    → IsErrAnd r (λ (f : Refusal). f ≡ e) → refusal_number e ≡ refusal (pkr_checks memory id v nodes key padding)
+    → ◌≡◌ {A = Written} (record { memory = memory; answer = meaning_written r }) (write_pkr memory id v nodes key padding)
 unfolding write_pkr
-pkr_refused memory id v nodes key padding e ne = write_refused _ memory _ id e ne
+pkr_refused memory id v nodes key padding r e i h = write_refused _ memory _ id r e i h
 
-pub pkr_written : (memory : List ℕ) (id : ℕ) (v : PkrValues) (nodes key padding : List ℕ) {q n : ℕ} {after : List ℕ}
-    → q ≡ refusal (pkr_checks memory id v nodes key padding) → q ≡ 0
+pub pkr_written : (memory : List ℕ) (id : ℕ) (v : PkrValues) (nodes key padding : List ℕ) {n : ℕ} {after : List ℕ}
+    → 0 ≡ refusal (pkr_checks memory id v nodes key padding)
     → after ≡ over (pkr_message v nodes key padding) memory → 12 ≤ id → length nodes ≡ 128 → n ≡ 130 + length key + length padding
     → ◌≡◌ {A = Written} (record { memory = after; answer = gives (id ∷ 1 ∷ n ∷ []) }) (write_pkr memory id v nodes key padding)
 unfolding write_pkr
-pkr_written memory id v nodes key padding e z a h l n =
-    write_done _ memory (pkr_message v nodes key padding) id 1 e z a (ap (λ (b : Bool). cond b 0 1) (le-ltb id 12 h))
+pkr_written memory id v nodes key padding e a h l n =
+    write_done _ memory (pkr_message v nodes key padding) id 1 e a (ap (λ (b : Bool). cond b 0 1) (le-ltb id 12 h))
     (n ∙ sym (length_pkr v nodes key padding l))

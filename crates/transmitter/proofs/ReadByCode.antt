@@ -2,20 +2,20 @@
 -- Assumes nothing.
 use mathlib.Core.Path.{◌≡◌, refl, sym, ap, ◌∙◌, subst⁻¹}
 use mathlib.Core.List.{List, [], ◌∷◌, map}
-use Prim.Native.Nat.{ℕ}
+use Prim.Native.Nat.{ℕ, ◌+◌, ◌*◌}
 use native.Mathlib.Omega.{arith}
-use lib.ListN.{take, get_or}
-use Rattle.layouts.specs.Answer.{Answer, nothing, gives, Check, Copied}
+use lib.ListN.{take, drop, get_or}
+use Rattle.layouts.specs.Answer.{Answer, nothing, gives, Check}
 use Rattle.layouts.specs.Bits.{Field, value, read}
 use Rattle.layouts.specs.DsmKroot.{kroot_layout}
 use Rattle.layouts.proofs.Answers.{Passed, none_fails}
+use Rattle.layouts.proofs.Unique.{agreed}
 use Rattle.transmitter.specs.Write.{Written, written, kroot_numbers, kroot_message, kroot_checks, write_kroot, pkr_message, pkr_checks, write_pkr}
 use Rattle.transmitter.specs.WritePromises.{kroot_of, pkr_of}
 use Rattle.transmitter.specs.ReadBack.{KrootReads, KrootReadByCode, KrootCodeReadsBack, PkrReads, PkrReadByCode, PkrCodeReadsBack}
 use Rattle.transmitter.specs.declared.kroot.KrootValues.{KrootValues}
-use Rattle.transmitter.specs.declared.kroot.KrootRead.TheVariants.{Values as KrootIs}
+use Rattle.std.specs.Prelude.{Ok}
 use Rattle.transmitter.specs.declared.pkr.PkrValues.{PkrValues}
-use Rattle.transmitter.specs.declared.pkr.PkrRead.TheVariants.{Values as PkrIs}
 use Rattle.transmitter.proofs.Rows.{more, kroot_raw, pkr_raw}
 use Rattle.transmitter.proofs.Writes.{none_refused, message_back}
 use Rattle.transmitter.proofs.KrootBack.{KrootFacts, kroot_reads, kroot_facts}
@@ -53,7 +53,7 @@ module _ (m : List ℕ) (v : KrootValues) (key signature padding : List ℕ) (f 
         padding_shown = λ r p. p ∙ reads.padding_shown;
         padding_bytes = λ r p. p ∙ reads.padding_read;
         kroot_values = λ r p.
-            same_kroot r (KrootIs v)
+            same_kroot r (Ok v)
             (p ∙ sym (kroot_raw m (omega (arith, f.long))
             (more (says 0) (more (says 1) (more (says 2) (more (says 4) (more (says 5) (more (says 6) (more (says 7) (more (says 8) (more (says 10)
             (more (says 11) (more (says 12) refl)))))))))))));
@@ -66,7 +66,9 @@ module _ (m : List ℕ) (v : PkrValues) (nodes key padding : List ℕ) (f : PkrF
       record {
         number_of_blocks = λ r p. p ∙ reads.count_read;
         message_id = λ r p. p ∙ reads.message_read;
-        tree_node = λ k h r p. (ap (λ (c : Copied). c.answer) (p ∙ reads.nodes_read k h), ap (λ (c : Copied). c.bytes) (p ∙ reads.nodes_read k h));
+        tree_node = λ k h r p.
+            agreed.pkr_intermediate_tree_node m k r
+            (Ok (record { part = record { first = 1 + 32 * k; many = 32 }; bytes = take 32 (drop (32 * k) nodes) })) p (sym (reads.nodes_read k h));
         key_type_number = λ r p. p ∙ reads.type_as_it_stands;
         key_type = λ r p. p ∙ reads.type_read;
         key_id = λ r p. p ∙ reads.key_id_read;
@@ -78,7 +80,7 @@ module _ (m : List ℕ) (v : PkrValues) (nodes key padding : List ℕ) (f : PkrF
         padding_shown = λ r p. p ∙ reads.padding_shown;
         padding_bytes = λ r p. p ∙ reads.padding_read;
         pkr_values = λ r p.
-            same_pkr r (PkrIs v)
+            same_pkr r (Ok v)
             (p ∙ sym (pkr_raw m (omega (arith, f.long))
             (more (sym f.count_says) (more (sym f.message_says) (more (sym f.type_says) (more (sym f.key_id_says) refl))))));
       }

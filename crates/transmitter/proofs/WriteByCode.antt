@@ -3,11 +3,11 @@
 use mathlib.Core.Path.{◌≡◌, refl, sym, ap, ◌∙◌}
 use mathlib.Core.List.{List, [], ◌∷◌, ◌++◌}
 use mathlib.Core.Bool.{Bool, true, cond}
-use Prim.Native.Nat.{ℕ, ◌<◌}
+use Prim.Native.Nat.{ℕ, ◌≤◌, ◌<◌}
 use native.Mathlib.Omega.{arith}
 use lib.ListN.{length}
 use borrow.Author.Tests.{lt-ltb, le-ltb}
-use Rattle.layouts.specs.Answer.{gives, Check, Copied, shown}
+use Rattle.layouts.specs.Answer.{gives, Check, shown}
 use Rattle.layouts.specs.Bits.{the, value}
 use Rattle.layouts.specs.DsmHeader.{dsm_type_of}
 use Rattle.layouts.specs.DsmKroot.{kroot_layout, kroot_part, signature_part}
@@ -17,17 +17,17 @@ use Rattle.transmitter.specs.Write.{Written, written, write_kroot, kroot_checks,
 use Rattle.transmitter.specs.WritePromises.{kroot_of, pkr_of, meaning_written, WriteKroot, WritePkr}
 use Rattle.transmitter.specs.WriteBack.{is_good_kroot, is_good_pkr, kroot_read, pkr_read, node, Same, Bytes, LeftKroot, LeftPkr}
 use Rattle.transmitter.specs.WriteBack.{CodeExactlyIf, CodeWritesBackExactlyIf}
-use Rattle.transmitter.specs.declared.answer.WriteAnswer.{WriteAnswer}
-use Rattle.transmitter.specs.declared.answer.WriteAnswer.TheVariants.{Wrote}
+use Rattle.dsms.specs.declared.dsm.CompleteDsm.{CompleteDsm}
+use Rattle.layouts.specs.declared.refusal.Refusal.{Refusal}
 use Rattle.transmitter.specs.declared.kroot.KrootValues.{KrootValues}
-use Rattle.transmitter.specs.declared.kroot.KrootRead.TheVariants.{Values as KrootIs}
+use Rattle.std.specs.Prelude.{Result, Ok}
 use Rattle.transmitter.specs.declared.pkr.PkrValues.{PkrValues}
-use Rattle.transmitter.specs.declared.pkr.PkrRead.TheVariants.{Values as PkrIs}
 use Rattle.transmitter.proofs.Rows.{kroot_raw, pkr_raw}
 use Rattle.transmitter.proofs.Writes.{written_is, none_refused}
 use Rattle.transmitter.proofs.Good.{only_kroot, only_pkr}
 use Rattle.transmitter.proofs.KrootAgain.{if_kroot, head_there}
 use Rattle.transmitter.proofs.PkrAgain as again
+use Rattle.transmitter.proofs.PkrAgain.{node_of}
 use Rattle.transmitter.proofs.WriteUnique.{same_written, same_kroot, same_pkr}
 
 -- the values that were read, under the code's names
@@ -57,18 +57,18 @@ pkr_values m =
     }
 
 -- what a write that yields the message tells, and what tells that it did
-kroot_left : (memory : List ℕ) (id : ℕ) (m : List ℕ) (r : WriteAnswer) (after : List ℕ) → id < 12
+kroot_left : (memory : List ℕ) (id : ℕ) (m : List ℕ) (r : Result CompleteDsm Refusal) (after : List ℕ) → id < 12
     → Same memory id m (record { memory = after; answer = meaning_written r }) → LeftKroot memory id m r after
 kroot_left memory id m r after h s = (
-  same_written r (Wrote id Kroot (length m))
+  same_written r (Ok (record { id = id; dsm_type = Kroot; bytes = length m }))
       (ap (λ (w : Written). w.answer) s ∙ ap (λ (b : Bool). gives (id ∷ cond b 0 1 ∷ length m ∷ [])) (lt-ltb id 12 h)),
   ap (λ (w : Written). w.memory) s,
 )
 
-pkr_left : (memory : List ℕ) (id : ℕ) (m : List ℕ) (r : WriteAnswer) (after : List ℕ) → 11 < id
+pkr_left : (memory : List ℕ) (id : ℕ) (m : List ℕ) (r : Result CompleteDsm Refusal) (after : List ℕ) → 11 < id
     → Same memory id m (record { memory = after; answer = meaning_written r }) → LeftPkr memory id m r after
 pkr_left memory id m r after h s = (
-  same_written r (Wrote id Pkr (length m))
+  same_written r (Ok (record { id = id; dsm_type = Pkr; bytes = length m }))
       (ap (λ (w : Written). w.answer) s ∙ ap (λ (b : Bool). gives (id ∷ cond b 0 1 ∷ length m ∷ [])) (le-ltb id 12 h)),
   ap (λ (w : Written). w.memory) s,
 )
@@ -85,22 +85,22 @@ same_type checks memory message id t n {x} e =
     e ∙ ap (λ (k : ℕ). record { memory = x; answer = gives (id ∷ k ∷ n ∷ []) }) c
 
 module _ (memory : List ℕ) (id : ℕ) (m : List ℕ) (long : length memory ≡ 208) (b : Bytes m) where
-  kroot_only : (v : KrootValues) (key signature padding : List ℕ) (r : WriteAnswer) (after : List ℕ)
+  kroot_only : (v : KrootValues) (key signature padding : List ℕ) (r : Result CompleteDsm Refusal) (after : List ℕ)
       → WriteKroot memory id v key signature padding r after → LeftKroot memory id m r after → is_good_kroot m ≡ true
   unfolding write_kroot
   kroot_only v key signature padding r after w l =
       only_kroot memory id m (kroot_of v) key signature padding
       (same_type (kroot_checks memory id (kroot_of v) key signature padding) memory (kroot_message (kroot_of v) key signature padding) id 0 (length m)
-      (sym w ∙ ap (λ (x : WriteAnswer). record { memory = after; answer = meaning_written x }) l.0
+      (sym w ∙ ap (λ (x : Result CompleteDsm Refusal). record { memory = after; answer = meaning_written x }) l.0
       ∙ ap (λ (x : List ℕ). record { memory = x; answer = gives (id ∷ 0 ∷ length m ∷ []) }) l.1))
 
-  pkr_only : (v : PkrValues) (nodes key padding : List ℕ) (r : WriteAnswer) (after : List ℕ)
+  pkr_only : (v : PkrValues) (nodes key padding : List ℕ) (r : Result CompleteDsm Refusal) (after : List ℕ)
       → WritePkr memory id v nodes key padding r after → LeftPkr memory id m r after → is_good_pkr m ≡ true
   unfolding write_pkr
   pkr_only v nodes key padding r after w l =
       only_pkr memory id m (pkr_of v) nodes key padding
       (same_type (pkr_checks memory id (pkr_of v) nodes key padding) memory (pkr_message (pkr_of v) nodes key padding) id 1 (length m)
-      (sym w ∙ ap (λ (x : WriteAnswer). record { memory = after; answer = meaning_written x }) l.0
+      (sym w ∙ ap (λ (x : Result CompleteDsm Refusal). record { memory = after; answer = meaning_written x }) l.0
       ∙ ap (λ (x : List ℕ). record { memory = x; answer = gives (id ∷ 1 ∷ length m ∷ []) }) l.1))
 
   exactly_if : CodeExactlyIf memory id m
@@ -108,7 +108,7 @@ module _ (memory : List ℕ) (id : ℕ) (m : List ℕ) (long : length memory ≡
       record {
         if_kroot = λ kind good x key signature padding px pk ps pp. (
           kroot_values m,
-          same_kroot x (KrootIs (kroot_values m)) (px ∙ sym (kroot_raw m (omega (arith, head_there m good)) refl)),
+          same_kroot x (Ok (kroot_values m)) (px ∙ sym (kroot_raw m (omega (arith, head_there m good)) refl)),
           λ r after w.
               kroot_left memory id m r after kind
               (w ∙ ap (λ (y : List ℕ). write_kroot memory id (kroot_read m) y signature padding) pk
@@ -117,19 +117,28 @@ module _ (memory : List ℕ) (id : ℕ) (m : List ℕ) (long : length memory ≡
               ∙ if_kroot m good memory id long b kind),
         );
         only_kroot = kroot_only;
-        if_pkr = λ low high good x n₀ n₁ n₂ n₃ key padding px p₀ p₁ p₂ p₃ pk pp. (
-          pkr_values m,
-          same_pkr x (PkrIs (pkr_values m)) (px ∙ sym (pkr_raw m (omega (arith, again.head_there m good)) refl)),
-          λ r after w.
-              pkr_left memory id m r after low
-              (w ∙ ap (λ (y : List ℕ). write_pkr memory id (pkr_read m) (y ++ n₁.bytes ++ n₂.bytes ++ n₃.bytes) key padding) (ap (λ (c : Copied). c.bytes) p₀)
-              ∙ ap (λ (y : List ℕ). write_pkr memory id (pkr_read m) (node m 0 ++ y ++ n₂.bytes ++ n₃.bytes) key padding) (ap (λ (c : Copied). c.bytes) p₁)
-              ∙ ap (λ (y : List ℕ). write_pkr memory id (pkr_read m) (node m 0 ++ node m 1 ++ y ++ n₃.bytes) key padding) (ap (λ (c : Copied). c.bytes) p₂)
-              ∙ ap (λ (y : List ℕ). write_pkr memory id (pkr_read m) (node m 0 ++ node m 1 ++ node m 2 ++ y) key padding) (ap (λ (c : Copied). c.bytes) p₃)
-              ∙ ap (λ (y : List ℕ). write_pkr memory id (pkr_read m) (node m 0 ++ node m 1 ++ node m 2 ++ node m 3) y padding) pk
-              ∙ ap (λ (y : List ℕ). write_pkr memory id (pkr_read m) (node m 0 ++ node m 1 ++ node m 2 ++ node m 3) (shown m (new_key_part m)) y) pp
-              ∙ again.if_pkr m good memory id long b low high),
-        );
+        if_pkr = λ low high good x x₀ x₁ x₂ x₃ key padding px p₀ p₁ p₂ p₃ pk pp.
+            let n : (k : ℕ) → k ≤ 3 → (node_of m k).bytes ≡ node m k = λ k h. sym (again.node_is m good k h) in (
+              pkr_values m,
+              same_pkr x (Ok (pkr_values m)) (px ∙ sym (pkr_raw m (omega (arith, again.head_there m good)) refl)),
+              node_of m 0,
+              again.node_read m good 0 (omega arith) x₀ p₀,
+              node_of m 1,
+              again.node_read m good 1 (omega arith) x₁ p₁,
+              node_of m 2,
+              again.node_read m good 2 (omega arith) x₂ p₂,
+              node_of m 3,
+              again.node_read m good 3 (omega arith) x₃ p₃,
+              λ r after w.
+                  pkr_left memory id m r after low
+                  (w ∙ ap (λ (y : List ℕ). write_pkr memory id (pkr_read m) (y ++ (node_of m 1).bytes ++ (node_of m 2).bytes ++ (node_of m 3).bytes) key padding) (n 0 (omega arith))
+                  ∙ ap (λ (y : List ℕ). write_pkr memory id (pkr_read m) (node m 0 ++ y ++ (node_of m 2).bytes ++ (node_of m 3).bytes) key padding) (n 1 (omega arith))
+                  ∙ ap (λ (y : List ℕ). write_pkr memory id (pkr_read m) (node m 0 ++ node m 1 ++ y ++ (node_of m 3).bytes) key padding) (n 2 (omega arith))
+                  ∙ ap (λ (y : List ℕ). write_pkr memory id (pkr_read m) (node m 0 ++ node m 1 ++ node m 2 ++ y) key padding) (n 3 (omega arith))
+                  ∙ ap (λ (y : List ℕ). write_pkr memory id (pkr_read m) (node m 0 ++ node m 1 ++ node m 2 ++ node m 3) y padding) pk
+                  ∙ ap (λ (y : List ℕ). write_pkr memory id (pkr_read m) (node m 0 ++ node m 1 ++ node m 2 ++ node m 3) (shown m (new_key_part m)) y) pp
+                  ∙ again.if_pkr m good memory id long b low high),
+            );
         only_pkr = pkr_only;
       }
 

@@ -1,6 +1,6 @@
 -- Request 1: "Reading what was written gives the same fields back", for every reader of document 01; of the definitions, and of the code.
 -- Assumes nothing.
-use Rattle.std.specs.Prelude.{ℕ, ◌+◌, ◌*◌, ◌<◌, List, [], ◌∷◌, map, ◌≡◌, length, take, drop}
+use Rattle.std.specs.Prelude.{ℕ, ◌+◌, ◌*◌, ◌<◌, List, [], ◌∷◌, map, ◌≡◌, length, take, drop, Result, Ok}
 use Rattle.layouts.specs.Answer.{gives, shown, copied}
 use Rattle.layouts.specs.Bits.{Field, the, read}
 use Rattle.layouts.specs.Sizes.{size, kroot_blocks, pkr_blocks, key_sizes, tag_sizes, read_size, hash_functions, mac_functions, key_types, naming, read_name}
@@ -10,22 +10,18 @@ use Rattle.layouts.specs.DsmKroot.{kroot_layout, kroot_part, signature_part, ecd
 use Rattle.layouts.specs.DsmPkr as pkr
 use Rattle.layouts.specs.DsmPkr.{pkr_layout, new_key_sizes, count, node_part, new_key_part, leaf_part}
 use Rattle.layouts.specs.Meaning.{meaning_number, meaning_part, meaning_hash, meaning_mac, meaning_ecdsa, meaning_key_type}
-use Rattle.layouts.specs.declared.answer.Number.{Number}
-use Rattle.layouts.specs.declared.answer.Part.{Part}
-use Rattle.layouts.specs.declared.dsm_kroot.HashFunctionAnswer.{HashFunctionAnswer}
-use Rattle.layouts.specs.declared.dsm_kroot.MacFunctionAnswer.{MacFunctionAnswer}
-use Rattle.layouts.specs.declared.dsm_kroot.EcdsaFunctionAnswer.{EcdsaFunctionAnswer}
-use Rattle.layouts.specs.declared.dsm_pkr.NewPublicKeyTypeAnswer.{NewPublicKeyTypeAnswer}
+use Rattle.layouts.specs.declared.part.Part.{Part}
+use Rattle.layouts.specs.declared.dsm_kroot.HashFunction.{HashFunction}
+use Rattle.layouts.specs.declared.dsm_kroot.MacFunction.{MacFunction}
+use Rattle.layouts.specs.declared.dsm_kroot.EcdsaFunction.{EcdsaFunction}
+use Rattle.layouts.specs.declared.dsm_pkr.NewPublicKeyType.{NewPublicKeyType}
 use Rattle.layouts.specs.declared.dsm_pkr.TreeNode.{TreeNode}
 use Rattle.transmitter.specs.Write.{KrootValues, kroot_numbers, write_kroot, PkrValues, write_pkr}
 use Rattle.transmitter.specs.WritePromises.{meaning_written, WriteKroot, WritePkr, ReadKrootValues, ReadPkrValues}
-use Rattle.transmitter.specs.declared.answer.WriteAnswer.{WriteAnswer}
+use Rattle.dsms.specs.declared.dsm.CompleteDsm.{CompleteDsm}
+use Rattle.layouts.specs.declared.refusal.Refusal.{Refusal}
 use Rattle.transmitter.specs.declared.kroot.KrootValues.{KrootValues as KrootNumbers}
-use Rattle.transmitter.specs.declared.kroot.KrootRead.{KrootRead}
-use Rattle.transmitter.specs.declared.kroot.KrootRead.TheVariants.{Values as KrootIs}
 use Rattle.transmitter.specs.declared.pkr.PkrValues.{PkrValues as PkrNumbers}
-use Rattle.transmitter.specs.declared.pkr.PkrRead.{PkrRead}
-use Rattle.transmitter.specs.declared.pkr.PkrRead.TheVariants.{Values as PkrIs}
 
 -- What the readers say of a KROOT message m: none refuses.
 pub record KrootReads (m : List ℕ) (v : KrootValues) (key signature padding : List ℕ) : Type 0 where
@@ -77,57 +73,57 @@ PkrReadsBack =
 
 -- Of the code: each reader of `layouts::dsm_kroot`, called on the message m, and `kroot_values`.
 pub record KrootReadByCode (m : List ℕ) (v : KrootNumbers) (key signature padding : List ℕ) : Type 0 where
-  pub number_of_blocks : (r : Number) → kroot.NumberOfBlocks m r → meaning_number r ≡ gives (size kroot_blocks v.nb_dk ∷ [])
-  pub public_key_id : (r : Number) → kroot.PublicKeyId m r → meaning_number r ≡ gives (v.pkid ∷ [])
-  pub kroot_chain_id : (r : Number) → kroot.KrootChainId m r → meaning_number r ≡ gives (v.cidkr ∷ [])
-  pub hash_function_number : (r : Number) → kroot.HashFunctionNumber m r → meaning_number r ≡ gives (v.hf ∷ [])
-  pub hash_function : (r : HashFunctionAnswer) → kroot.HashFunctionRead m r → meaning_hash r ≡ gives (naming hash_functions v.hf)
-  pub mac_function_number : (r : Number) → kroot.MacFunctionNumber m r → meaning_number r ≡ gives (v.mf ∷ [])
-  pub mac_function : (r : MacFunctionAnswer) → kroot.MacFunctionRead m r → meaning_mac r ≡ gives (naming mac_functions v.mf)
-  pub key_size : (r : Number) → kroot.KeySize m r → meaning_number r ≡ gives (size key_sizes v.ks ∷ [])
-  pub tag_size : (r : Number) → kroot.TagSize m r → meaning_number r ≡ gives (size tag_sizes v.ts ∷ [])
-  pub mac_lookup_table : (r : Number) → kroot.MacLookupTable m r → meaning_number r ≡ gives (v.maclt ∷ [])
-  pub kroot_wn : (r : Number) → kroot.KrootWn m r → meaning_number r ≡ gives (v.wn_k ∷ [])
-  pub kroot_towh : (r : Number) → kroot.KrootTowh m r → meaning_number r ≡ gives (v.towh_k ∷ [])
-  pub alpha : (r : Number) → kroot.Alpha m r → meaning_number r ≡ gives (v.alpha ∷ [])
-  pub ecdsa_function_is : (r : EcdsaFunctionAnswer) → kroot.EcdsaFunctionRead m r → meaning_ecdsa r ≡ gives (size ecdsa_functions (length signature) ∷ [])
-  pub kroot_shown : (r : Part) → kroot.KrootShown m r → meaning_part r ≡ gives (13 ∷ length key ∷ [])
+  pub number_of_blocks : (r : Result ℕ Refusal) → kroot.NumberOfBlocks m r → meaning_number r ≡ gives (size kroot_blocks v.nb_dk ∷ [])
+  pub public_key_id : (r : Result ℕ Refusal) → kroot.PublicKeyId m r → meaning_number r ≡ gives (v.pkid ∷ [])
+  pub kroot_chain_id : (r : Result ℕ Refusal) → kroot.KrootChainId m r → meaning_number r ≡ gives (v.cidkr ∷ [])
+  pub hash_function_number : (r : Result ℕ Refusal) → kroot.HashFunctionNumber m r → meaning_number r ≡ gives (v.hf ∷ [])
+  pub hash_function : (r : Result HashFunction Refusal) → kroot.HashFunctionRead m r → meaning_hash r ≡ gives (naming hash_functions v.hf)
+  pub mac_function_number : (r : Result ℕ Refusal) → kroot.MacFunctionNumber m r → meaning_number r ≡ gives (v.mf ∷ [])
+  pub mac_function : (r : Result MacFunction Refusal) → kroot.MacFunctionRead m r → meaning_mac r ≡ gives (naming mac_functions v.mf)
+  pub key_size : (r : Result ℕ Refusal) → kroot.KeySize m r → meaning_number r ≡ gives (size key_sizes v.ks ∷ [])
+  pub tag_size : (r : Result ℕ Refusal) → kroot.TagSize m r → meaning_number r ≡ gives (size tag_sizes v.ts ∷ [])
+  pub mac_lookup_table : (r : Result ℕ Refusal) → kroot.MacLookupTable m r → meaning_number r ≡ gives (v.maclt ∷ [])
+  pub kroot_wn : (r : Result ℕ Refusal) → kroot.KrootWn m r → meaning_number r ≡ gives (v.wn_k ∷ [])
+  pub kroot_towh : (r : Result ℕ Refusal) → kroot.KrootTowh m r → meaning_number r ≡ gives (v.towh_k ∷ [])
+  pub alpha : (r : Result ℕ Refusal) → kroot.Alpha m r → meaning_number r ≡ gives (v.alpha ∷ [])
+  pub ecdsa_function_is : (r : Result EcdsaFunction Refusal) → kroot.EcdsaFunctionRead m r → meaning_ecdsa r ≡ gives (size ecdsa_functions (length signature) ∷ [])
+  pub kroot_shown : (r : Result Part Refusal) → kroot.KrootShown m r → meaning_part r ≡ gives (13 ∷ length key ∷ [])
   pub kroot_bytes : (r : List ℕ) → kroot.Kroot m r → r ≡ key
-  pub digital_signature_shown : (r : Part) → kroot.DigitalSignatureShown m r → meaning_part r ≡ gives ((13 + length key) ∷ length signature ∷ [])
+  pub digital_signature_shown : (r : Result Part Refusal) → kroot.DigitalSignatureShown m r → meaning_part r ≡ gives ((13 + length key) ∷ length signature ∷ [])
   pub digital_signature : (r : List ℕ) → kroot.DigitalSignature m r → r ≡ signature
-  pub padding_shown : (r : Part) → kroot.PaddingShown m r → meaning_part r ≡ gives ((13 + length key + length signature) ∷ length padding ∷ [])
+  pub padding_shown : (r : Result Part Refusal) → kroot.PaddingShown m r → meaning_part r ≡ gives ((13 + length key + length signature) ∷ length padding ∷ [])
   pub padding_bytes : (r : List ℕ) → kroot.Padding m r → r ≡ padding
-  pub kroot_values : (r : KrootRead) → ReadKrootValues m r → r ≡ KrootIs v
+  pub kroot_values : (r : Result KrootNumbers Refusal) → ReadKrootValues m r → r ≡ Ok v
 
 -- a write that is not refused, and then a reader
 abbrev pub KrootCodeReadsBack : Type 0
 KrootCodeReadsBack =
-    (memory : List ℕ) (id : ℕ) (v : KrootNumbers) (key signature padding : List ℕ) (r : WriteAnswer) (after : List ℕ) (n : ℕ)
+    (memory : List ℕ) (id : ℕ) (v : KrootNumbers) (key signature padding : List ℕ) (r : Result CompleteDsm Refusal) (after : List ℕ) (n : ℕ)
     → WriteKroot memory id v key signature padding r after
     → meaning_written r ≡ gives (id ∷ 0 ∷ n ∷ [])
     → KrootReadByCode (take n after) v key signature padding
 
 -- Of the code: each reader of `layouts::dsm_pkr`, called on the message m, and `pkr_values`.
 pub record PkrReadByCode (m : List ℕ) (v : PkrNumbers) (nodes key padding : List ℕ) : Type 0 where
-  pub number_of_blocks : (r : Number) → pkr.NumberOfBlocks m r → meaning_number r ≡ gives (size pkr_blocks v.nb_dp ∷ [])
-  pub message_id : (r : Number) → pkr.MessageId m r → meaning_number r ≡ gives (v.mid ∷ [])
-  pub tree_node : (k : ℕ) → k < 4 → (r : TreeNode) → pkr.IntermediateTreeNode m k r
-      → (meaning_part r.answer ≡ gives ((1 + 32 * k) ∷ 32 ∷ [])) × (r.bytes ≡ take 32 (drop (32 * k) nodes))
-  pub key_type_number : (r : Number) → pkr.NewPublicKeyTypeNumber m r → meaning_number r ≡ gives (v.npkt ∷ [])
-  pub key_type : (r : NewPublicKeyTypeAnswer) → pkr.NewPublicKeyTypeRead m r → meaning_key_type r ≡ gives (naming key_types v.npkt)
-  pub key_id : (r : Number) → pkr.NewPublicKeyId m r → meaning_number r ≡ gives (v.npkid ∷ [])
-  pub key_size : (r : Number) → pkr.KeySize m r → meaning_number r ≡ gives (length key ∷ [])
-  pub new_public_key_shown : (r : Part) → pkr.NewPublicKeyShown m r → meaning_part r ≡ gives (130 ∷ length key ∷ [])
+  pub number_of_blocks : (r : Result ℕ Refusal) → pkr.NumberOfBlocks m r → meaning_number r ≡ gives (size pkr_blocks v.nb_dp ∷ [])
+  pub message_id : (r : Result ℕ Refusal) → pkr.MessageId m r → meaning_number r ≡ gives (v.mid ∷ [])
+  pub tree_node : (k : ℕ) → k < 4 → (r : Result TreeNode Refusal) → pkr.IntermediateTreeNode m k r
+      → r ≡ Ok (record { part = record { first = 1 + 32 * k; many = 32 }; bytes = take 32 (drop (32 * k) nodes) })
+  pub key_type_number : (r : Result ℕ Refusal) → pkr.NewPublicKeyTypeNumber m r → meaning_number r ≡ gives (v.npkt ∷ [])
+  pub key_type : (r : Result NewPublicKeyType Refusal) → pkr.NewPublicKeyTypeRead m r → meaning_key_type r ≡ gives (naming key_types v.npkt)
+  pub key_id : (r : Result ℕ Refusal) → pkr.NewPublicKeyId m r → meaning_number r ≡ gives (v.npkid ∷ [])
+  pub key_size : (r : Result ℕ Refusal) → pkr.KeySize m r → meaning_number r ≡ gives (length key ∷ [])
+  pub new_public_key_shown : (r : Result Part Refusal) → pkr.NewPublicKeyShown m r → meaning_part r ≡ gives (130 ∷ length key ∷ [])
   pub new_public_key : (r : List ℕ) → pkr.NewPublicKey m r → r ≡ key
-  pub merkle_tree_leaf_shown : (r : Part) → pkr.MerkleTreeLeafShown m r → meaning_part r ≡ gives (129 ∷ (1 + length key) ∷ [])
+  pub merkle_tree_leaf_shown : (r : Result Part Refusal) → pkr.MerkleTreeLeafShown m r → meaning_part r ≡ gives (129 ∷ (1 + length key) ∷ [])
   pub merkle_tree_leaf : (r : List ℕ) → pkr.MerkleTreeLeaf m r → r ≡ (16 * v.npkt + v.npkid) ∷ key
-  pub padding_shown : (r : Part) → pkr.PaddingShown m r → meaning_part r ≡ gives ((130 + length key) ∷ length padding ∷ [])
+  pub padding_shown : (r : Result Part Refusal) → pkr.PaddingShown m r → meaning_part r ≡ gives ((130 + length key) ∷ length padding ∷ [])
   pub padding_bytes : (r : List ℕ) → pkr.Padding m r → r ≡ padding
-  pub pkr_values : (r : PkrRead) → ReadPkrValues m r → r ≡ PkrIs v
+  pub pkr_values : (r : Result PkrNumbers Refusal) → ReadPkrValues m r → r ≡ Ok v
 
 abbrev pub PkrCodeReadsBack : Type 0
 PkrCodeReadsBack =
-    (memory : List ℕ) (id : ℕ) (v : PkrNumbers) (nodes key padding : List ℕ) (r : WriteAnswer) (after : List ℕ) (n : ℕ)
+    (memory : List ℕ) (id : ℕ) (v : PkrNumbers) (nodes key padding : List ℕ) (r : Result CompleteDsm Refusal) (after : List ℕ) (n : ℕ)
     → WritePkr memory id v nodes key padding r after
     → meaning_written r ≡ gives (id ∷ 1 ∷ n ∷ [])
     → PkrReadByCode (take n after) v nodes key padding

@@ -1,7 +1,7 @@
 -- Request 1: "Writing what was read gives the same bytes exactly if no reader of document 01 refuses a field of the message, its length is 13 times its
 -- count and its reserved bits were zero." Of the definitions, and of the code.
 -- Assumes nothing.
-use Rattle.std.specs.Prelude.{ℕ, ◌*◌, ◌<◌, List, [], ◌∷◌, ◌++◌, map, ◌≡◌, Bool, true, false, ◌&&◌, length, drop, eqb}
+use Rattle.std.specs.Prelude.{ℕ, ◌*◌, ◌<◌, List, [], ◌∷◌, ◌++◌, map, ◌≡◌, Bool, true, false, ◌&&◌, length, drop, eqb, Result, Ok}
 use Rattle.layouts.specs.Answer.{Answer, refused, nothing, gives, shown, copied}
 use Rattle.layouts.specs.Bits.{Field, the, value, read}
 use Rattle.layouts.specs.Sizes.{size, kroot_blocks, pkr_blocks, key_sizes, tag_sizes, read_size, hash_functions, mac_functions, key_types, read_name}
@@ -11,17 +11,13 @@ use Rattle.layouts.specs.DsmKroot.{kroot_layout, kroot_part, signature_part, ecd
 use Rattle.layouts.specs.DsmPkr as pkr
 use Rattle.layouts.specs.DsmPkr.{pkr_layout, new_key_sizes, count, node_part, new_key_part, leaf_part}
 use Rattle.layouts.specs.declared.dsm_header.DsmType.TheVariants.{Kroot, Pkr}
+use Rattle.layouts.specs.declared.refusal.Refusal.{Refusal}
 use Rattle.layouts.specs.declared.dsm_pkr.TreeNode.{TreeNode}
 use Rattle.transmitter.specs.Write.{Written, KrootValues, write_kroot, PkrValues, write_pkr}
 use Rattle.transmitter.specs.WritePromises.{WriteKroot, WritePkr, ReadKrootValues, ReadPkrValues}
-use Rattle.transmitter.specs.declared.answer.WriteAnswer.{WriteAnswer}
-use Rattle.transmitter.specs.declared.answer.WriteAnswer.TheVariants.{Wrote}
+use Rattle.dsms.specs.declared.dsm.CompleteDsm.{CompleteDsm}
 use Rattle.transmitter.specs.declared.kroot.KrootValues.{KrootValues as KrootNumbers}
-use Rattle.transmitter.specs.declared.kroot.KrootRead.{KrootRead}
-use Rattle.transmitter.specs.declared.kroot.KrootRead.TheVariants.{Values as KrootIs}
 use Rattle.transmitter.specs.declared.pkr.PkrValues.{PkrValues as PkrNumbers}
-use Rattle.transmitter.specs.declared.pkr.PkrRead.{PkrRead}
-use Rattle.transmitter.specs.declared.pkr.PkrRead.TheVariants.{Values as PkrIs}
 
 -- "no reader of document 01 refuses a field of the message"
 abbrev pub given : Answer → Bool
@@ -133,31 +129,32 @@ abbrev pub WritesBackExactlyIf : Type 0
 WritesBackExactlyIf = (memory : List ℕ) (id : ℕ) (m : List ℕ) → length memory ≡ 208 → Bytes m → ExactlyIf memory id m
 
 -- Of the code. What a write left and answered is the message m, all of it and nothing but it.
-abbrev pub LeftKroot : List ℕ → ℕ → List ℕ → WriteAnswer → List ℕ → Type 0
-LeftKroot memory id m r after = (r ≡ Wrote id Kroot (length m)) × (after ≡ m ++ drop (length m) memory)
+abbrev pub LeftKroot : List ℕ → ℕ → List ℕ → Result CompleteDsm Refusal → List ℕ → Type 0
+LeftKroot memory id m r after = (r ≡ Ok (record { id = id; dsm_type = Kroot; bytes = length m })) × (after ≡ m ++ drop (length m) memory)
 
-abbrev pub LeftPkr : List ℕ → ℕ → List ℕ → WriteAnswer → List ℕ → Type 0
-LeftPkr memory id m r after = (r ≡ Wrote id Pkr (length m)) × (after ≡ m ++ drop (length m) memory)
+abbrev pub LeftPkr : List ℕ → ℕ → List ℕ → Result CompleteDsm Refusal → List ℕ → Type 0
+LeftPkr memory id m r after = (r ≡ Ok (record { id = id; dsm_type = Pkr; bytes = length m })) × (after ≡ m ++ drop (length m) memory)
 
 -- "a technician changes one field of a recording and sends it": `kroot_values` and the readers of the parts, called on m, then `write_kroot` with what they
 -- gave; for PKR `pkr_values`, the four nodes and the parts, then `write_pkr`
 pub record CodeExactlyIf (memory : List ℕ) (id : ℕ) (m : List ℕ) : Type 0 where
   pub if_kroot : id < 12 → is_good_kroot m ≡ true
-      → (x : KrootRead) (key signature padding : List ℕ)
+      → (x : Result KrootNumbers Refusal) (key signature padding : List ℕ)
       → ReadKrootValues m x → kroot.Kroot m key → kroot.DigitalSignature m signature → kroot.Padding m padding
-      → (v : KrootNumbers) × (x ≡ KrootIs v)
-      × ((r : WriteAnswer) (after : List ℕ) → WriteKroot memory id v key signature padding r after → LeftKroot memory id m r after)
-  pub only_kroot : (v : KrootNumbers) (key signature padding : List ℕ) (r : WriteAnswer) (after : List ℕ)
+      → (v : KrootNumbers) × (x ≡ Ok v)
+      × ((r : Result CompleteDsm Refusal) (after : List ℕ) → WriteKroot memory id v key signature padding r after → LeftKroot memory id m r after)
+  pub only_kroot : (v : KrootNumbers) (key signature padding : List ℕ) (r : Result CompleteDsm Refusal) (after : List ℕ)
       → WriteKroot memory id v key signature padding r after → LeftKroot memory id m r after → is_good_kroot m ≡ true
   pub if_pkr : 11 < id → id < 16 → is_good_pkr m ≡ true
-      → (x : PkrRead) (n₀ n₁ n₂ n₃ : TreeNode) (key padding : List ℕ)
+      → (x : Result PkrNumbers Refusal) (x₀ x₁ x₂ x₃ : Result TreeNode Refusal) (key padding : List ℕ)
       → ReadPkrValues m x
-      → pkr.IntermediateTreeNode m 0 n₀ → pkr.IntermediateTreeNode m 1 n₁ → pkr.IntermediateTreeNode m 2 n₂ → pkr.IntermediateTreeNode m 3 n₃
+      → pkr.IntermediateTreeNode m 0 x₀ → pkr.IntermediateTreeNode m 1 x₁ → pkr.IntermediateTreeNode m 2 x₂ → pkr.IntermediateTreeNode m 3 x₃
       → pkr.NewPublicKey m key → pkr.Padding m padding
-      → (v : PkrNumbers) × (x ≡ PkrIs v)
-      × ((r : WriteAnswer) (after : List ℕ)
+      → (v : PkrNumbers) × (x ≡ Ok v)
+      × (n₀ : TreeNode) × (x₀ ≡ Ok n₀) × (n₁ : TreeNode) × (x₁ ≡ Ok n₁) × (n₂ : TreeNode) × (x₂ ≡ Ok n₂) × (n₃ : TreeNode) × (x₃ ≡ Ok n₃)
+      × ((r : Result CompleteDsm Refusal) (after : List ℕ)
       → WritePkr memory id v (n₀.bytes ++ n₁.bytes ++ n₂.bytes ++ n₃.bytes) key padding r after → LeftPkr memory id m r after)
-  pub only_pkr : (v : PkrNumbers) (nodes key padding : List ℕ) (r : WriteAnswer) (after : List ℕ)
+  pub only_pkr : (v : PkrNumbers) (nodes key padding : List ℕ) (r : Result CompleteDsm Refusal) (after : List ℕ)
       → WritePkr memory id v nodes key padding r after → LeftPkr memory id m r after → is_good_pkr m ≡ true
 
 abbrev pub CodeWritesBackExactlyIf : Type 0

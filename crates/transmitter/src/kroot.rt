@@ -1,20 +1,24 @@
 // DSM-KROOT messages: written from raw numbers, and the raw numbers read back.
 ghost use Rattle.std.specs.Prelude.{◌≡◌, ◌||◌, ◌+◌, ◌*◌, ◌^◌, ◌≤◌, length, eqb};
 ghost use Rattle.layouts.specs.Answer.{refusal as refusal_of};
-ghost use Rattle.layouts.specs.Sizes.{size, kroot_blocks, key_sizes, tag_sizes};
+ghost use Rattle.layouts.specs.Refusals.{refused_by};
 ghost use Rattle.layouts.specs.DsmKroot.{kroot_layout};
 ghost use Rattle.layouts.specs.Packed.{packed_on, too_wide};
 ghost use Rattle.transmitter.specs.Write.{kroot_numbers, kroot_message, kroot_checks};
 ghost use Rattle.transmitter.specs.WritePromises.{kroot_of, WriteKroot, ReadKrootValues};
 ghost use Rattle.transmitter.specs.inner.Parts.{over, Narrow};
 
-use crate::answer::WriteAnswer;
 use crate::fields;
+use dsms::dsm::CompleteDsm;
 use layouts::dsm_header::DsmType;
 use layouts::dsm_kroot;
 use layouts::dsm_kroot::{
     ALPHA, CIDKR, HF, KROOT_BYTE, KS, MACLT, MF, NB_DK, PKID, TOWH_K, TS, WN_K,
 };
+use layouts::refusal::Refusal;
+
+// The padding fills the last block only.
+const MOST_PADDING: usize = 12;
 
 // The values of a KROOT message, as they stand in their fields.
 #[derive(Clone, Copy)]
@@ -32,120 +36,64 @@ pub struct KrootValues {
     pub alpha: u64,
 }
 
-// The values that stand in a message, or the number of the refusal.
-#[derive(Clone, Copy)]
-pub enum KrootRead {
-    Values(KrootValues),
-    Refused(u8),
-}
-
-// The number of blocks; 0 where the code is reserved.
-fn blocks_of(nb_dk: u64) -> u16
-    ensures { result ≡ size kroot_blocks nb_dk }
-{
-    fields::listed(dsm_kroot::BLOCKS, nb_dk)
-}
-
-// A key's bytes; 0 where the code is reserved.
-fn key_bytes_of(ks: u64) -> u16
-    ensures { result ≡ size key_sizes ks }
-{
-    fields::listed(dsm_kroot::KEY_SIZES, ks)
-}
-
-// A tag's bits; 0 where the code is reserved.
-fn tag_bits_of(ts: u64) -> u16
-    ensures { result ≡ size tag_sizes ts }
-{
-    fields::listed(dsm_kroot::TAG_SIZES, ts)
-}
-
 // A value too wide for its field.
 fn is_wide(v: KrootValues) -> bool
     ensures { result ≡ too_wide kroot_layout (kroot_numbers (kroot_of v)) }
 {
-    if fields::is_wide(v.nb_dk, NB_DK) {
-        return true;
-    }
-    if fields::is_wide(v.pkid, PKID) {
-        return true;
-    }
-    if fields::is_wide(v.cidkr, CIDKR) {
-        return true;
-    }
-    if fields::is_wide(v.hf, HF) {
-        return true;
-    }
-    if fields::is_wide(v.mf, MF) {
-        return true;
-    }
-    if fields::is_wide(v.ks, KS) {
-        return true;
-    }
-    if fields::is_wide(v.ts, TS) {
-        return true;
-    }
-    if fields::is_wide(v.maclt, MACLT) {
-        return true;
-    }
-    if fields::is_wide(v.wn_k, WN_K) {
-        return true;
-    }
-    if fields::is_wide(v.towh_k, TOWH_K) {
-        return true;
-    }
-    fields::is_wide(v.alpha, ALPHA)
+    fields::any_wide(&[
+        (v.nb_dk, NB_DK),
+        (v.pkid, PKID),
+        (v.cidkr, CIDKR),
+        (v.hf, HF),
+        (v.mf, MF),
+        (v.ks, KS),
+        (v.ts, TS),
+        (v.maclt, MACLT),
+        (v.wn_k, WN_K),
+        (v.towh_k, TOWH_K),
+        (v.alpha, ALPHA),
+    ])
 }
 
 // The two lengths that a signature has.
 fn is_signature(many: usize) -> bool
     ensures { result ≡ (eqb many 64 || eqb many 132) }
 {
-    if many == 64 {
-        return true;
-    }
-    many == 132
+    many == 64 || many == 132
 }
 
-// The number of the refusal; 0 for none.
-fn refuses(dsm: &[u8], id: u64, v: KrootValues, key: &[u8], signature: &[u8], padding: &[u8]) -> u8
-    ensures { result ≡ refusal_of (kroot_checks dsm.now id (kroot_of v) key.now signature.now padding.now) }
+// Each check in its order. (The parts stay apart, as the public function is lent them.)
+fn check(
+    dsm: &[u8],
+    id: u64,
+    v: KrootValues,
+    key: &[u8],
+    signature: &[u8],
+    padding: &[u8],
+) -> Result<(), Refusal>
+    ensures { refused_by result ≡ refusal_of (kroot_checks dsm.now id (kroot_of v) key.now signature.now padding.now) }
 {
     if dsm.len() != 208 {
-        return 1;
+        return Err(Refusal::SliceLength);
     }
     let s = signature.len();
     if !is_signature(s) {
-        return 1;
+        return Err(Refusal::SliceLength);
     }
     if is_wide(v) {
-        return 7;
+        return Err(Refusal::Argument);
     }
     if 11 < id {
-        return 7;
+        return Err(Refusal::Argument);
     }
-    let blocks = blocks_of(v.nb_dk);
-    if blocks == 0 {
-        return 6;
-    }
-    let k = key_bytes_of(v.ks);
-    if k == 0 {
-        return 6;
-    }
-    if tag_bits_of(v.ts) == 0 {
-        return 6;
-    }
-    if key.len() != k as usize {
-        return 11;
-    }
+    let blocks = usize::from(fields::listed(dsm_kroot::BLOCKS, v.nb_dk)?);
+    let k = usize::from(fields::listed(dsm_kroot::KEY_SIZES, v.ks)?);
+    fields::listed(dsm_kroot::TAG_SIZES, v.ts)?;
     let p = padding.len();
-    if 12 < p {
-        return 11;
+    if key.len() != k || MOST_PADDING < p || KROOT_BYTE + k + s + p != 13 * blocks {
+        return Err(Refusal::Lengths);
     }
-    if KROOT_BYTE + k as usize + s + p != 13 * blocks as usize {
-        return 11;
-    }
-    0
+    Ok(())
 }
 
 // The bits before alpha as one number.
@@ -188,30 +136,26 @@ pub fn write_kroot(
     key: &[u8],
     signature: &[u8],
     padding: &[u8],
-) -> WriteAnswer
+) -> Result<CompleteDsm, Refusal>
     ensures { WriteKroot dsm.old id values key.now signature.now padding.now result dsm.new }
 {
-    let refusal = refuses(dsm, id, values, key, signature, padding);
-    if refusal != 0 {
-        return WriteAnswer::Refused(refusal);
-    }
+    check(dsm, id, values, key, signature, padding)?;
     put_message(dsm, values, key, signature, padding);
-    let bytes = KROOT_BYTE + key.len() + signature.len() + padding.len();
-    WriteAnswer::Wrote {
+    Ok(CompleteDsm {
         id: id as u8,
         dsm_type: DsmType::Kroot,
-        bytes,
-    }
+        bytes: KROOT_BYTE + key.len() + signature.len() + padding.len(),
+    })
 }
 
 // The raw numbers of a KROOT message, for `write_kroot`. Refuses 5 where the message ends before alpha does.
-pub fn kroot_values(msg: &[u8]) -> KrootRead
+pub fn kroot_values(msg: &[u8]) -> Result<KrootValues, Refusal>
     ensures { ReadKrootValues msg.now result }
 {
     if msg.len() < KROOT_BYTE {
-        return KrootRead::Refused(5);
+        return Err(Refusal::MessageEnds);
     }
-    KrootRead::Values(KrootValues {
+    Ok(KrootValues {
         nb_dk: fields::stands(msg, NB_DK),
         pkid: fields::stands(msg, PKID),
         cidkr: fields::stands(msg, CIDKR),

@@ -2,7 +2,6 @@
 // they are sent in.
 #![tactic(auto)]
 
-pub mod answer;
 pub mod blocks;
 mod fields;
 pub mod kroot;

@@ -1,17 +1,18 @@
 // DSM-PKR messages: written from raw numbers, and the raw numbers read back.
 ghost use Rattle.std.specs.Prelude.{◌≡◌, ◌+◌, ◌≤◌, length};
 ghost use Rattle.layouts.specs.Answer.{refusal as refusal_of};
-ghost use Rattle.layouts.specs.Sizes.{size, pkr_blocks};
+ghost use Rattle.layouts.specs.Refusals.{refused_by};
 ghost use Rattle.layouts.specs.Packed.{too_wide};
 ghost use Rattle.transmitter.specs.Write.{pkr_rows, pkr_numbers, pkr_message, pkr_checks};
 ghost use Rattle.transmitter.specs.WritePromises.{pkr_of, WritePkr, ReadPkrValues};
 ghost use Rattle.transmitter.specs.inner.Parts.{over, Halves};
 
-use crate::answer::WriteAnswer;
 use crate::fields;
+use dsms::dsm::CompleteDsm;
 use layouts::dsm_header::DsmType;
 use layouts::dsm_pkr;
 use layouts::dsm_pkr::{ITN, MID, NB_DP, NPK_BYTE, NPKID, NPKT};
+use layouts::refusal::Refusal;
 
 // The values of a PKR message, as they stand in their fields.
 #[derive(Clone, Copy)]
@@ -22,75 +23,56 @@ pub struct PkrValues {
     pub npkid: u64,
 }
 
-// The values that stand in a message, or the number of the refusal.
-#[derive(Clone, Copy)]
-pub enum PkrRead {
-    Values(PkrValues),
-    Refused(u8),
-}
-
-// The number of blocks; 0 where the code is reserved.
-fn blocks_of(nb_dp: u64) -> u16
-    ensures { result ≡ size pkr_blocks nb_dp }
-{
-    fields::listed(dsm_pkr::BLOCKS, nb_dp)
-}
-
 // A value too wide for its field.
 fn is_wide(v: PkrValues) -> bool
     ensures { result ≡ too_wide pkr_rows (pkr_numbers (pkr_of v)) }
 {
-    if fields::is_wide(v.nb_dp, NB_DP) {
-        return true;
-    }
-    if fields::is_wide(v.mid, MID) {
-        return true;
-    }
-    if fields::is_wide(v.npkt, NPKT) {
-        return true;
-    }
-    fields::is_wide(v.npkid, NPKID)
+    fields::any_wide(&[
+        (v.nb_dp, NB_DP),
+        (v.mid, MID),
+        (v.npkt, NPKT),
+        (v.npkid, NPKID),
+    ])
 }
 
-// The number of the refusal; 0 for none.
-fn refuses(dsm: &[u8], id: u64, v: PkrValues, nodes: &[u8], key: &[u8], padding: &[u8]) -> u8
-    ensures { result ≡ refusal_of (pkr_checks dsm.now id (pkr_of v) nodes.now key.now padding.now) }
+// Each check in its order. (The parts stay apart, as the public function is lent them.)
+fn check(
+    dsm: &[u8],
+    id: u64,
+    v: PkrValues,
+    nodes: &[u8],
+    key: &[u8],
+    padding: &[u8],
+) -> Result<(), Refusal>
+    ensures { refused_by result ≡ refusal_of (pkr_checks dsm.now id (pkr_of v) nodes.now key.now padding.now) }
 {
     if dsm.len() != 208 {
-        return 1;
+        return Err(Refusal::SliceLength);
     }
     if nodes.len() != 128 {
-        return 1;
+        return Err(Refusal::SliceLength);
     }
     if is_wide(v) {
-        return 7;
+        return Err(Refusal::Argument);
     }
     if id < 12 {
-        return 7;
+        return Err(Refusal::Argument);
     }
     if 15 < id {
-        return 7;
+        return Err(Refusal::Argument);
     }
-    let blocks = blocks_of(v.nb_dp);
-    if blocks == 0 {
-        return 6;
+    let blocks = fields::listed(dsm_pkr::BLOCKS, v.nb_dp)?;
+    let Some(size) = dsm_pkr::key_length(v.npkt, blocks) else {
+        return Err(Refusal::Reserved);
+    };
+    let k = size as usize;
+    if key.len() != k {
+        return Err(Refusal::Lengths);
     }
-    let k = dsm_pkr::key_length(v.npkt, blocks);
-    if k == 0 {
-        return 6;
+    if (13 * usize::from(blocks)).checked_sub(NPK_BYTE + k) != Some(padding.len()) {
+        return Err(Refusal::Lengths);
     }
-    if key.len() != k as usize {
-        return 11;
-    }
-    let start = NPK_BYTE + k as usize;
-    let end = 13 * blocks as usize;
-    if end < start {
-        return 11;
-    }
-    if padding.len() != end - start {
-        return 11;
-    }
-    0
+    Ok(())
 }
 
 // The parts of the message, one behind the other.
@@ -109,6 +91,7 @@ fn put_message(dsm: &mut [u8], v: PkrValues, nodes: &[u8], key: &[u8], padding: 
     fields::put(dsm, k, padding);
 }
 
+// A writer of its own beside `write_kroot`: other parts and other checks, of which no line is the same but the calls.
 // Writes a PKR message of that ID from its raw numbers and its parts; the bytes after its end keep their contents.
 // Refuses 1 for lent bytes other than 208 or nodes other than 128, 7 for a value too wide for its field or an ID other than 12 to
 // 15, 6 for a reserved count or key type, and 11 where the key has another length than its type says or the parts do not fill the
@@ -120,30 +103,26 @@ pub fn write_pkr(
     nodes: &[u8],
     key: &[u8],
     padding: &[u8],
-) -> WriteAnswer
+) -> Result<CompleteDsm, Refusal>
     ensures { WritePkr dsm.old id values nodes.now key.now padding.now result dsm.new }
 {
-    let refusal = refuses(dsm, id, values, nodes, key, padding);
-    if refusal != 0 {
-        return WriteAnswer::Refused(refusal);
-    }
+    check(dsm, id, values, nodes, key, padding)?;
     put_message(dsm, values, nodes, key, padding);
-    let bytes = NPK_BYTE + key.len() + padding.len();
-    WriteAnswer::Wrote {
+    Ok(CompleteDsm {
         id: id as u8,
         dsm_type: DsmType::Pkr,
-        bytes,
-    }
+        bytes: NPK_BYTE + key.len() + padding.len(),
+    })
 }
 
 // The raw numbers of a PKR message, for `write_pkr`. Refuses 5 where the message ends before NPKID does.
-pub fn pkr_values(msg: &[u8]) -> PkrRead
+pub fn pkr_values(msg: &[u8]) -> Result<PkrValues, Refusal>
     ensures { ReadPkrValues msg.now result }
 {
     if msg.len() < NPK_BYTE {
-        return PkrRead::Refused(5);
+        return Err(Refusal::MessageEnds);
     }
-    PkrRead::Values(PkrValues {
+    Ok(PkrValues {
         nb_dp: fields::stands(msg, NB_DP),
         mid: fields::stands(msg, MID),
         npkt: fields::stands(msg, NPKT),

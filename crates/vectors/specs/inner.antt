@@ -1,2 +1,3 @@
 -- For the prover alone: no promise cites a file of this folder.
+pub mod Answered
 pub mod Little

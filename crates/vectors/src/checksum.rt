@@ -1,6 +1,5 @@
 // The Adler-32 checksum of a file. It shows a change of the bytes of a message that no recorded field reads.
 use crate::records;
-use layouts::numbers;
 use std::fs::Files;
 use std::io::Read;
 use std::{fs, io};
@@ -9,51 +8,34 @@ use std::{fs, io};
 struct Sum {
     a: u64,
     b: u64,
-    more: bool,
 }
 
 // The sum with some bytes more.
 fn added(s: Sum, bytes: &[u8]) -> Sum {
     let mut a = s.a % 65521;
     let mut b = s.b % 65521;
-    let mut i = 0;
-    while i < bytes.len() {
-        a = (a + numbers::wide(bytes[i])) % 65521;
+    for byte in bytes {
+        a = (a + u64::from(*byte)) % 65521;
         b = (b + a) % 65521;
-        i += 1;
     }
-    Sum {
-        a,
-        b,
-        more: 0 < bytes.len(),
-    }
+    Sum { a, b }
 }
 
-// The sum with what one read gives; `more` says whether it gave any.
-fn turn<F: Read>(file: &mut F, s: Sum) -> io::Result<Sum> {
-    let mut buf = [0u8; 4096];
-    let n = records::read_full(file, &mut buf)?;
-    Ok(added(s, &buf[..n]))
-}
-
+// A loop has to end, and nothing says that a file does: the sum of a longer file is that of its first million reads.
 fn each<F: Read>(file: &mut F) -> io::Result<Sum> {
-    let mut s = Sum {
-        a: 1,
-        b: 0,
-        more: true,
-    };
-    let mut turns: u64 = 1000000;
-    while 0 < turns {
-        s = turn(file, s)?;
-        if !s.more {
+    let mut s = Sum { a: 1, b: 0 };
+    for _ in 0..1000000 {
+        let mut buf = [0u8; 4096];
+        let n = records::read_full(file, &mut buf)?;
+        if n == 0 {
             return Ok(s);
         }
-        turns -= 1;
+        s = added(s, &buf[..n]);
     }
     Ok(s)
 }
 
-// 0 where the file cannot be opened, which is no checksum of any file.
+// 0 where the file cannot be opened, which is no checksum of any file: no Option, since 0 is what is printed then.
 pub(crate) fn of_file<R: Files>(rt: &R, path: &str) -> io::Result<u64> {
     match fs::open(rt, path) {
         Err(_) => Ok(0),

@@ -19,6 +19,7 @@ mod recorded_pkr;
 mod recorded_slots;
 mod recorded_table;
 mod records;
+mod replayed;
 mod sequence_calls;
 mod sequences;
 mod tally;
@@ -26,10 +27,14 @@ mod tally;
 use std::io;
 
 fn main(rt: HostRuntime) -> io::Result<()> {
-    print::checksum(&rt, checksum::of_file(&rt, "answers.bin")?)?;
+    print::checksum(&rt, "answers.bin", checksum::of_file(&rt, "answers.bin")?)?;
     print::summary(&rt, recorded::all(&rt, "answers.bin")?)?;
     print::published_summary(&rt, published::all(&rt)?)?;
-    print::sequences_checksum(&rt, checksum::of_file(&rt, "sequences.bin")?)?;
+    print::checksum(
+        &rt,
+        "sequences.bin",
+        checksum::of_file(&rt, "sequences.bin")?,
+    )?;
     print::sequences_summary(&rt, sequences::all(&rt, "sequences.bin")?)?;
     Ok(())
 }

@@ -1,120 +1,76 @@
 // What the program writes.
 use crate::found::Found;
 use crate::records::Record;
-use crate::tally;
 use crate::tally::Tally;
 use std::io;
-use std::io::Write;
 
-fn text<R: Print>(rt: &R, words: &[u8]) -> io::Result<()> {
-    io::writer(rt).write_all(words)
+fn answer<R: Print>(rt: &R, refusal: u8, values: [u64; 3]) -> io::Result<()> {
+    let [v0, v1, v2] = values;
+    print!(rt; " refusal {refusal}, values {v0} {v1} {v2}")
 }
 
-fn number<R: Print>(rt: &R, n: u64) -> io::Result<()> {
-    print!(rt; "{n}")?;
-    Ok(())
-}
-
-fn answer<R: Print>(rt: &R, refusal: u8, v0: u64, v1: u64, v2: u64) -> io::Result<()> {
-    text(rt, b" refusal ")?;
-    number(rt, refusal as u64)?;
-    text(rt, b", values ")?;
-    number(rt, v0)?;
-    text(rt, b" ")?;
-    number(rt, v1)?;
-    text(rt, b" ")?;
-    number(rt, v2)?;
-    Ok(())
-}
-
-// A record that differs, with what it expects and what was found.
-pub(crate) fn difference<R: Print>(rt: &R, at: u64, r: Record, f: Found) -> io::Result<()> {
-    text(rt, b"record ")?;
-    number(rt, at)?;
-    text(rt, b", function ")?;
-    number(rt, r.function as u64)?;
-    text(rt, b": expected")?;
-    answer(rt, r.refusal, r.v0, r.v1, r.v2)?;
-    text(rt, b"; found")?;
-    answer(rt, f.refusal, f.v0, f.v1, f.v2)?;
-    if !f.fits {
-        text(rt, b"; bytes or name differ")?;
+// A record that differs, with what it expects and what was found; 255 where no function here answers.
+pub(crate) fn difference<R: Print>(
+    rt: &R,
+    at: u64,
+    r: Record,
+    found: Option<Found>,
+) -> io::Result<()> {
+    print!(rt; "record {at}, function {}: expected", r.function)?;
+    answer(rt, r.refusal, r.values)?;
+    print!(rt; "; found")?;
+    let (refusal, values) = found.map_or((255, [0; 3]), |f| f.recorded());
+    answer(rt, refusal, values)?;
+    if !found.is_some_and(|f| f.fits) {
+        print!(rt; "; bytes or name differ")?;
     }
-    text(rt, b"\n")?;
-    Ok(())
+    println!(rt)
 }
 
 pub(crate) fn cut<R: Print>(rt: &R, at: u64) -> io::Result<()> {
-    text(rt, b"record ")?;
-    number(rt, at)?;
-    text(rt, b": the file ends inside it\n")?;
-    Ok(())
+    println!(rt; "record {at}: the file ends inside it")
 }
 
 pub(crate) fn endless<R: Print>(rt: &R) -> io::Result<()> {
-    text(rt, b"the file has more than a million records\n")?;
-    Ok(())
+    println!(rt; "the file has more than a million records")
 }
 
-pub(crate) fn missing<R: Print>(rt: &R, path: &[u8]) -> io::Result<()> {
-    text(rt, path)?;
-    text(rt, b": cannot be opened\n")?;
-    Ok(())
+pub(crate) fn missing<R: Print>(rt: &R, path: &str) -> io::Result<()> {
+    println!(rt; "{path}: cannot be opened")
 }
 
-pub(crate) fn checksum<R: Print>(rt: &R, sum: u64) -> io::Result<()> {
-    text(rt, b"checksum of answers.bin: ")?;
-    number(rt, sum)?;
-    text(rt, b"\n")?;
-    Ok(())
+pub(crate) fn checksum<R: Print>(rt: &R, path: &str, sum: u64) -> io::Result<()> {
+    println!(rt; "checksum of {path}: {sum}")
 }
 
 pub(crate) fn summary<R: Print>(rt: &R, t: Tally) -> io::Result<()> {
-    text(rt, b"recorded answers: ")?;
-    number(rt, tally::total(t.good, t.refused))?;
-    text(rt, b" records (")?;
-    number(rt, t.good)?;
-    text(rt, b" values, ")?;
-    number(rt, t.refused)?;
-    text(rt, b" refusals), ")?;
-    number(rt, t.differ)?;
-    text(rt, b" differ\nrecords of the C boundary only: ")?;
-    number(rt, t.boundary)?;
-    text(rt, b"\n")?;
-    Ok(())
+    println!(rt;
+        "recorded answers: {} records ({} values, {} refusals), {} differ",
+        t.total(),
+        t.good,
+        t.refused,
+        t.differ
+    )?;
+    println!(rt; "records of the C boundary only: {}", t.boundary)
 }
 
-// A published value that the reader does not give.
-pub(crate) fn published<R: Print>(rt: &R, name: &[u8]) -> io::Result<()> {
-    text(rt, b"published: ")?;
-    text(rt, name)?;
-    text(rt, b" differs\n")?;
-    Ok(())
+// A published value that the reader does not give. One line, as `missing` is one, of other words.
+pub(crate) fn published<R: Print>(rt: &R, name: &str) -> io::Result<()> {
+    println!(rt; "published: {name} differs")
 }
 
 pub(crate) fn published_summary<R: Print>(rt: &R, t: Tally) -> io::Result<()> {
-    text(rt, b"published values, in messages of our own making: ")?;
-    number(rt, t.good)?;
-    text(rt, b" checks, ")?;
-    number(rt, t.differ)?;
-    text(rt, b" differ\n")?;
-    Ok(())
-}
-
-pub(crate) fn sequences_checksum<R: Print>(rt: &R, sum: u64) -> io::Result<()> {
-    text(rt, b"checksum of sequences.bin: ")?;
-    number(rt, sum)?;
-    text(rt, b"\n")?;
-    Ok(())
+    println!(rt;
+        "published values, in messages of our own making: {} checks, {} differ",
+        t.good, t.differ
+    )
 }
 
 pub(crate) fn sequences_summary<R: Print>(rt: &R, t: Tally) -> io::Result<()> {
-    text(rt, b"recorded sequences: ")?;
-    number(rt, tally::total(t.good, t.refused))?;
-    text(rt, b" calls (")?;
-    number(rt, t.refused)?;
-    text(rt, b" refusals), ")?;
-    number(rt, t.differ)?;
-    text(rt, b" differ\n")?;
-    Ok(())
+    println!(rt;
+        "recorded sequences: {} calls ({} refusals), {} differ",
+        t.total(),
+        t.refused,
+        t.differ
+    )
 }

@@ -1,14 +1,14 @@
 // Values that the annex of the OSNMA Receiver Guidelines v1.3 publishes, as the test suite of gnss-sdr 0.0.20 cites them, set into
 // messages of our own making: no whole message was at hand. What is ours in each is said in its file.
 use crate::tally::Tally;
-use crate::{found, print, published_kroot, published_mack, published_pkr, published_slots, tally};
-use layouts::answer::Number;
+use crate::{print, published_kroot, published_mack, published_pkr, published_slots, tally};
+use layouts::refusal::Refusal;
 use std::io;
 use texts::hexadecimal;
 
 // One check more, with a line where it fails.
-pub(crate) fn held<R: Print>(rt: &R, name: &[u8], fits: bool, t: Tally) -> io::Result<Tally> {
-    let t = t.record(0);
+pub(crate) fn held<R: Print>(rt: &R, name: &str, fits: bool, t: Tally) -> io::Result<Tally> {
+    let t = t.record(false);
     if fits {
         return Ok(t);
     }
@@ -18,17 +18,17 @@ pub(crate) fn held<R: Print>(rt: &R, name: &[u8], fits: bool, t: Tally) -> io::R
 
 pub(crate) fn number<R: Print>(
     rt: &R,
-    name: &[u8],
-    answer: Number,
+    name: &str,
+    answer: Result<u64, Refusal>,
     expected: u64,
     t: Tally,
 ) -> io::Result<Tally> {
-    held(rt, name, found::is(found::number(answer), expected), t)
+    held(rt, name, answer == Ok(expected), t)
 }
 
 pub(crate) fn bytes<R: Print>(
     rt: &R,
-    name: &[u8],
+    name: &str,
     answer: &[u8],
     text: &[u8],
     t: Tally,

@@ -17,15 +17,9 @@ const MESSAGE: [u8; 58] = *b"2000491B04E000\
 pub(crate) fn checks<R: Print>(rt: &R, t: Tally) -> io::Result<Tally> {
     let mut msg = [0u8; 104];
     let view: &mut [u8] = &mut msg;
-    hexadecimal::read(view, 0, &MESSAGE);
-    let t = published::number(rt, b"A.5.2 key size", dsm_kroot::key_size(view), 16, t)?;
-    let t = published::number(rt, b"A.5.2 week", dsm_kroot::kroot_wn(view), 1248, t)?;
-    let t = published::number(
-        rt,
-        b"A.5.2 alpha",
-        dsm_kroot::alpha(view),
-        0x610BDF26D77B,
-        t,
-    )?;
-    published::bytes(rt, b"A.5.2 root key", dsm_kroot::kroot(view), &ROOT_KEY, t)
+    let _ = hexadecimal::read(view, 0, &MESSAGE);
+    let t = published::number(rt, "A.5.2 key size", dsm_kroot::key_size(view), 16, t)?;
+    let t = published::number(rt, "A.5.2 week", dsm_kroot::kroot_wn(view), 1248, t)?;
+    let t = published::number(rt, "A.5.2 alpha", dsm_kroot::alpha(view), 0x610BDF26D77B, t)?;
+    published::bytes(rt, "A.5.2 root key", dsm_kroot::kroot(view), &ROOT_KEY, t)
 }

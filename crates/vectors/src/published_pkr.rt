@@ -33,65 +33,65 @@ const MESSAGE: [u8; 338] = *b"71\
 
 fn node<R: Print>(
     rt: &R,
-    name: &[u8],
+    name: &str,
     msg: &[u8],
     n: usize,
     text: &[u8],
     t: Tally,
 ) -> io::Result<Tally> {
     let node = dsm_pkr::intermediate_tree_node(msg, n);
-    let bytes = node.bytes;
-    published::bytes(rt, name, &bytes, text, t)
+    let fits = node.is_ok_and(|node| hexadecimal::spells(text, &node.bytes));
+    published::held(rt, name, fits, t)
 }
 
 fn nodes<R: Print>(rt: &R, msg: &[u8], t: Tally) -> io::Result<Tally> {
-    let t = node(rt, b"A.7 tree node 0", msg, 0, &NODE_0, t)?;
-    let t = node(rt, b"A.7 tree node 1", msg, 1, &NODE_1, t)?;
-    let t = node(rt, b"A.7 tree node 2", msg, 2, &NODE_2, t)?;
-    node(rt, b"A.7 tree node 3", msg, 3, &NODE_3, t)
+    let t = node(rt, "A.7 tree node 0", msg, 0, &NODE_0, t)?;
+    let t = node(rt, "A.7 tree node 1", msg, 1, &NODE_1, t)?;
+    let t = node(rt, "A.7 tree node 2", msg, 2, &NODE_2, t)?;
+    node(rt, "A.7 tree node 3", msg, 3, &NODE_3, t)
 }
 
 fn numbers<R: Print>(rt: &R, msg: &[u8], t: Tally) -> io::Result<Tally> {
     let t = published::number(
         rt,
-        b"A.7 number of blocks",
+        "A.7 number of blocks",
         dsm_pkr::number_of_blocks(msg),
         13,
         t,
     )?;
-    let t = published::number(rt, b"A.7 message ID", dsm_pkr::message_id(msg), 1, t)?;
+    let t = published::number(rt, "A.7 message ID", dsm_pkr::message_id(msg), 1, t)?;
     let t = published::held(
         rt,
-        b"A.7 key type",
-        found::is(recorded_pkr::key_type(msg), 1),
+        "A.7 key type",
+        recorded_pkr::key_type(msg) == found::value(1),
         t,
     )?;
-    let t = published::number(rt, b"A.7 key ID", dsm_pkr::new_public_key_id(msg), 2, t)?;
-    published::number(rt, b"A.7 key size", dsm_pkr::key_size(msg), 33, t)
+    let t = published::number(rt, "A.7 key ID", dsm_pkr::new_public_key_id(msg), 2, t)?;
+    published::number(rt, "A.7 key size", dsm_pkr::key_size(msg), 33, t)
 }
 
 fn parts<R: Print>(rt: &R, msg: &[u8], t: Tally) -> io::Result<Tally> {
     let t = published::bytes(
         rt,
-        b"A.7 new public key",
+        "A.7 new public key",
         dsm_pkr::new_public_key(msg),
         &KEY,
         t,
     )?;
     let t = published::bytes(
         rt,
-        b"A.7 Merkle tree leaf",
+        "A.7 Merkle tree leaf",
         dsm_pkr::merkle_tree_leaf(msg),
         &LEAF,
         t,
     )?;
-    published::bytes(rt, b"A.7 padding", dsm_pkr::padding(msg), &PADDING, t)
+    published::bytes(rt, "A.7 padding", dsm_pkr::padding(msg), &PADDING, t)
 }
 
 pub(crate) fn checks<R: Print>(rt: &R, t: Tally) -> io::Result<Tally> {
     let mut msg = [0u8; 169];
     let view: &mut [u8] = &mut msg;
-    hexadecimal::read(view, 0, &MESSAGE);
+    let _ = hexadecimal::read(view, 0, &MESSAGE);
     let t = numbers(rt, view, t)?;
     let t = nodes(rt, view, t)?;
     parts(rt, view, t)

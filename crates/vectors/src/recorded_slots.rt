@@ -1,31 +1,23 @@
-// Functions 100 and 101: a tag at its slot, and the tags that hold ADKD 4. `ks` is the size of the key in bytes, `ts` that of a tag in
-// bits. A message of function 100 is the sender, the table ID, the message's number and then the MACK message.
+// Functions 100 and 101: a tag at its slot, and the tags that hold ADKD 4. A message of function 100 is the sender, the table ID, the
+// message's number and then the MACK message.
 use crate::found;
 use crate::found::Found;
+use layouts::mack::{Mack, Sizes};
 use layouts::maclt;
-use layouts::maclt::{MacLTSlot, MacLTSlotAnswer};
-use layouts::numbers::wide;
+use layouts::maclt::MacLTSlot;
 use layouts::tag_info::Adkd;
-use recorder::slots::{SlotsAnswer, TagField};
-use recorder::timing::{TimingCount, TimingTags};
+use recorder::slots::Verdict;
 use recorder::{timing, walk};
-
-fn for_timing(slot: MacLTSlot) -> bool {
-    match slot {
-        MacLTSlot::Flex => false,
-        MacLTSlot::Fixed { adkd, object: _ } => match adkd {
-            Adkd::InavTiming => true,
-            _ => false,
-        },
-    }
-}
 
 // Whether the tag stands at 04S, the only slot of ADKD 4.
 fn is_timing(id: u8, msg: u8, tag: usize) -> bool {
-    match maclt::get_maclt_entry(id, msg as usize, tag) {
-        MacLTSlotAnswer::Refused(_) => false,
-        MacLTSlotAnswer::Slot(slot) => for_timing(slot),
-    }
+    matches!(
+        maclt::get_maclt_entry(id, usize::from(msg), tag),
+        Ok(MacLTSlot::Fixed {
+            adkd: Adkd::InavTiming,
+            ..
+        })
+    )
 }
 
 fn exchanged(prnd: u8, sender: u8) -> u8 {
@@ -38,7 +30,7 @@ fn exchanged(prnd: u8, sender: u8) -> u8 {
     prnd
 }
 
-// The low half of one byte before the high half of another; and so of the high and the low halves.
+// The low half of one byte before the high half of another (`across` of `layouts` is its own); and so of the high and the low halves.
 fn low_high(a: u8, b: u8) -> u8 {
     a % 16 * 16 + b / 16
 }
@@ -83,65 +75,55 @@ fn exchange_tag(msg: &mut [u8], n: usize, at: usize) {
 
 // The Rust asks for the sender's number in PRND at 04S, `recorder` for 255 (request 4 of document 02), and each calls the other's value
 // wrong. A record has the message that the Rust was asked about: here, and nowhere else, the two are exchanged, at 04S alone.
-pub(crate) fn exchange(msg: &mut [u8], ts: usize) {
-    if 40 < ts {
+pub(crate) fn exchange(msg: &mut [u8], tag_bits: usize) {
+    if 40 < tag_bits {
         return;
     }
-    let q = ts / 4;
-    exchange_tag(msg, 1, 10 + 2 * q);
-    exchange_tag(msg, 2, 14 + 3 * q);
-    exchange_tag(msg, 3, 18 + 4 * q);
-    exchange_tag(msg, 4, 22 + 5 * q);
-    exchange_tag(msg, 5, 26 + 6 * q);
-    exchange_tag(msg, 6, 30 + 7 * q);
-    exchange_tag(msg, 7, 34 + 8 * q);
-    exchange_tag(msg, 8, 38 + 9 * q);
-    exchange_tag(msg, 9, 42 + 10 * q);
-}
-
-fn field_number(field: TagField) -> u64 {
-    match field {
-        TagField::Adkd => 1,
-        TagField::Prnd => 2,
+    let q = tag_bits / 4;
+    // A loop with a call that changes the message.
+    for n in 1..10 {
+        exchange_tag(msg, n, 6 + 4 * n + (n + 1) * q);
     }
 }
 
 // The verdict on a message of which only tag `n` can break its slot.
-fn verdict(answer: SlotsAnswer, n: usize) -> Found {
-    match answer {
-        SlotsAnswer::AllFit => found::value(0),
-        SlotsAnswer::Breaks { tag, field } => {
-            found::values(field_number(field), 0, 0, tag as usize == n)
-        }
-        SlotsAnswer::Refused(number) => found::refused(number, true),
-        _ => found::nothing(),
+fn judged(slots: Verdict, n: usize) -> Option<Found> {
+    match slots {
+        Verdict::AllFit => Some(found::value(0)),
+        Verdict::Breaks { tag, field } => Some(found::values(
+            field as u64,
+            0,
+            0,
+            usize::from(tag) == n,
+        )),
+        Verdict::TagsDiffer { .. } => None,
     }
 }
 
 // 100: tag `n` at its slot.
-pub(crate) fn slot(msg: &[u8], ks: usize, ts: usize, n: usize) -> Found {
+pub(crate) fn slot(msg: &[u8], sizes: Sizes, n: usize) -> Option<Found> {
     if msg.len() != 63 {
-        return found::nothing();
+        return None;
     }
-    let sender = msg[0];
-    let id = msg[1];
-    let number = wide(msg[2]) as usize;
-    let walked = walk::walk(&msg[3..63], ks, ts, sender, id, number);
-    let slots = walked.slots;
-    verdict(slots, n)
-}
-
-fn listed(timing: TimingTags, expected: &[u8]) -> Found {
-    let count = timing.count;
-    let tags = timing.tags;
-    match count {
-        TimingCount::Tags(n) => found::values(n as u64, 0, 0, check::same(&tags, expected)),
-        TimingCount::Refused(n) => found::refused(n, false),
-        TimingCount::Nothing => found::nothing(),
+    let mack = Mack {
+        msg: &msg[3..],
+        sizes,
+    };
+    match walk::walk(mack, msg[0], msg[1], usize::from(msg[2])) {
+        Ok(walked) => judged(walked.slots, n),
+        Err(refusal) => Some(found::refused(refusal, true)),
     }
 }
 
-// 101: the tags, nine bytes with zeros behind.
-pub(crate) fn timing_tags(msg: &[u8], ks: usize, ts: usize, expected: &[u8]) -> Found {
-    listed(timing::timing_tags(msg, ks, ts), expected)
+// 101: the tags, nine bytes with zeros behind. No refusal is recorded.
+pub(crate) fn timing_tags(mack: Mack<'_>, expected: &[u8]) -> Found {
+    match timing::timing_tags(mack) {
+        Ok(timing) => found::values(
+            u64::from(timing.count),
+            0,
+            0,
+            timing.tags.as_slice() == expected,
+        ),
+        Err(refusal) => found::refused(refusal, false),
+    }
 }

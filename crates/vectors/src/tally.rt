@@ -1,4 +1,4 @@
-// Counts of what was compared.
+// Counts of what was compared. A count goes no further than its type does.
 
 #[derive(Clone, Copy)]
 pub(crate) struct Tally {
@@ -18,43 +18,36 @@ pub(crate) fn none() -> Tally {
     }
 }
 
-// A count that goes no further than its type does.
-pub(crate) fn more(n: u64) -> u64 {
-    if n < 18446744073709551615 { n + 1 } else { n }
-}
-
-// The sum of two counts. A file makes none that reach 2^32.
-pub(crate) fn total(n: u64, m: u64) -> u64 {
-    if 4294967296 <= n {
-        return n;
-    }
-    if 4294967296 <= m {
-        return m;
-    }
-    n + m
-}
-
 impl Tally {
     // One record more, refused or not.
-    pub(crate) fn record(self, refusal: u8) -> Tally {
-        let mut t = self;
-        if refusal == 0 {
-            t.good = more(t.good);
-        } else {
-            t.refused = more(t.refused);
+    pub(crate) fn record(self, is_refused: bool) -> Tally {
+        if is_refused {
+            return Tally {
+                refused: self.refused.saturating_add(1),
+                ..self
+            };
         }
-        t
+        Tally {
+            good: self.good.saturating_add(1),
+            ..self
+        }
     }
 
     pub(crate) fn difference(self) -> Tally {
-        let mut t = self;
-        t.differ = more(t.differ);
-        t
+        Tally {
+            differ: self.differ.saturating_add(1),
+            ..self
+        }
     }
 
     pub(crate) fn boundary_only(self) -> Tally {
-        let mut t = self;
-        t.boundary = more(t.boundary);
-        t
+        Tally {
+            boundary: self.boundary.saturating_add(1),
+            ..self
+        }
+    }
+
+    pub(crate) fn total(self) -> u64 {
+        self.good.saturating_add(self.refused)
     }
 }

@@ -1,10 +1,15 @@
 -- What private functions of `dsm` do.
 -- Assumes nothing.
-use Rattle.std.specs.Prelude.{ℕ, List, Bool, ◌≡◌}
+use Rattle.std.specs.Prelude.{ℕ, zero, suc, List, Bool, ◌≡◌, Option, Some, None}
 use Rattle.dsms.specs.Dsm.{State, stored, finished, taken}
 use Rattle.dsms.specs.DsmPromises.{state, outcome}
 use Rattle.dsms.specs.declared.dsm.CollectDsm.{CollectDsm}
 use Rattle.dsms.specs.declared.dsm.DsmFed.{DsmFed}
+
+-- a number of blocks, where it is legal: not 0
+abbrev pub legal : ℕ → Option ℕ
+legal zero = None
+legal (suc n) = Some (suc n)
 
 -- a state whose flags are lent
 abbrev pub state_of : ℕ → Bool → List Bool → Bool → List ℕ → State

@@ -1,14 +1,16 @@
 -- What the private functions of the code do.
 -- Assumes nothing.
-use Rattle.std.specs.Prelude.{ℕ, ◌+◌, ◌*◌, ◌≤◌, List, [], ◌∷◌, ◌++◌, map, ◌≡◌, cond, length, take, replicate, eqb}
-use Rattle.layouts.specs.Maclt.{Slot, fixed, flex, Row, flx_of, padded}
-use Rattle.layouts.specs.declared.answer.Part.{Part}
-use Rattle.layouts.specs.declared.answer.Part.TheVariants.{Shown, Refused}
+use Rattle.std.specs.Prelude.{ℕ, ◌+◌, ◌*◌, ◌≤◌, List, [], ◌∷◌, ◌++◌, map, ◌≡◌, cond, length, take, replicate, eqb, Result, Ok, Err}
+use Rattle.layouts.specs.Answer.{Answer, gives, ◌when◌, refusal, answered}
+use Rattle.layouts.specs.Meaning.{meaning_number}
+use Rattle.layouts.specs.Maclt.{Slot, fixed, flex, Row, flx_of, padded, table, row_of}
+use Rattle.layouts.specs.declared.part.Part.{Part}
+use Rattle.layouts.specs.declared.refusal.Refusal.{Refusal}
 
 -- a part that is shown ends within a message of that length
-abbrev pub Inside : Part → ℕ → Type 0
-Inside (Shown first many) len = first + many ≤ len
-Inside (Refused n) len = Unit {0}
+abbrev pub Inside : Result Part Refusal → ℕ → Type 0
+Inside (Ok p) len = p.first + p.many ≤ len
+Inside (Err e) len = Unit {0}
 
 -- the message has 60 bytes, and tag n with its info lies in it
 abbrev pub Room : List ℕ → ℕ → ℕ → Type 0
@@ -48,3 +50,10 @@ flx_number r = of_digits 256 (padded (flx_of 0 r) ++ padded (flx_of 1 r))
 -- 1 for a tag, 0 for none
 abbrev pub one_if_some : ℕ → ℕ
 one_if_some tag = cond (eqb tag 0) 0 1
+
+-- the row of a known ID, as the code has it; 8 for another
+abbrev pub known_row : ℕ → Answer
+known_row i = answered (refusal (8 when eqb (row_of i table).nt 0 ∷ [])) (gives (row_number (row_of i table) ∷ []))
+
+abbrev pub KnownRow : ℕ → Result ℕ Refusal → Type 0
+KnownRow i r = meaning_number r ≡ known_row i

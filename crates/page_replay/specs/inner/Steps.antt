@@ -23,10 +23,10 @@ pub record Room (r : PageReplay) (many : ℕ) : Type 0 where
 
 -- the satellite and the time of the next page are in range
 pub record InRange (r : PageReplay) : Type 0 where
-  pub some : 1 ≤ r.satellite
-  pub few : r.satellite ≤ 36
-  pub in_weeks : r.week ≤ 4095
-  pub in_week : r.time ≤ 604799
+  pub some : 1 ≤ r.next.satellite
+  pub few : r.next.satellite ≤ 36
+  pub in_weeks : r.next.week ≤ 4095
+  pub in_week : r.next.time ≤ 604799
 
 -- at most one subframe and one DSM were completed
 pub record AtMostOne (r : Run) : Type 0 where

@@ -1,6 +1,6 @@
 -- What the private functions of the code do.
 -- Assumes nothing.
-use Rattle.std.specs.Prelude.{ℕ, ◌≤◌, List, ◌≡◌}
+use Rattle.std.specs.Prelude.{ℕ, ◌≤◌, List, ◌≡◌, Option, Some, None}
 use Rattle.layouts.specs.Answer.{refusal}
 use Rattle.layouts.specs.Mack.{mack_checks, nt}
 use Rattle.layouts.specs.Maclt.{Slot, fixed, flex, table, row_of}
@@ -10,8 +10,7 @@ use Rattle.layouts.specs.declared.tag_info.Adkd.TheVariants.{InavCed, InavTiming
 use Rattle.layouts.specs.declared.maclt.MacLTSlot.{MacLTSlot}
 use Rattle.layouts.specs.declared.maclt.MacLTSlot.TheVariants.{Fixed, Flex}
 use Rattle.recorder.specs.WalkPromises.{field_number}
-use Rattle.recorder.specs.declared.slots.SlotFit.{SlotFit}
-use Rattle.recorder.specs.declared.slots.SlotFit.TheVariants.{Fits, Breaks}
+use Rattle.recorder.specs.declared.slots.TagField.{TagField}
 
 -- the number of a slot's ADKD; 16, which no tag has, for Reserved, which no slot has
 abbrev pub adkd_number : Adkd → ℕ
@@ -26,9 +25,9 @@ slot_of (Fixed a o) = fixed (adkd_number a) (object_number o)
 slot_of Flex = flex
 
 -- 0, or the number of the field
-abbrev pub fit_number : SlotFit → ℕ
-fit_number Fits = 0
-fit_number (Breaks f) = field_number f
+abbrev pub field_or_0 : Option TagField → ℕ
+field_or_0 None = 0
+field_or_0 (Some f) = field_number f
 
 -- a message that can be read, with its nt
 abbrev pub Readable : List ℕ → ℕ → ℕ → ℕ → Type 0

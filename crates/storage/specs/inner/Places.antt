@@ -1,33 +1,35 @@
 -- What inner functions of the store need and do.
 -- Assumes nothing.
-use Rattle.std.specs.Prelude.{ℕ, ◌+◌, ◌*◌, ◌≤◌, ◌≡◌, List, Bool, false, cond, not, ◌&&◌, eqb, length, get_or}
-use Rattle.storage.specs.Store.{Storage, Asked, is_time, status_checks, entry_checks, next_place, place_for, number_for}
+use Rattle.std.specs.Prelude.{ℕ, ◌+◌, ◌*◌, ◌≤◌, ◌<◌, ◌≡◌, Bool, false, length, get_or, eqb, List, Result, Ok, Err, Option, Some, None}
 use Rattle.layouts.specs.Answer.{refusal}
-use Rattle.storage.specs.declared.places.Asked.{Asked as AskedFor}
-use Rattle.storage.specs.declared.places.Admitted.{Admitted}
-use Rattle.storage.specs.declared.places.Admitted.TheVariants.{Refused as NotAdmitted, At}
+use Rattle.layouts.specs.Refusals.{refusal_number}
+use Rattle.layouts.specs.declared.refusal.Refusal.{Refusal}
+use Rattle.storage.specs.Store.{Storage, Asked, entry_checks, place_for, number_for, reached, found}
+use Rattle.storage.specs.StorePromises.{meaning_found}
+use Rattle.storage.specs.declared.mack_storage.MackFound.{MackFound}
+use Rattle.storage.specs.declared.mack_storage.MackStorage.{MackStorage}
+use Rattle.storage.specs.declared.mack_storage.Place.{Place}
+use Rattle.storage.specs.declared.places.Slot.{Slot}
 
--- the record from its lists, lent one by one
-abbrev pub lent : ℕ → List Bool → List ℕ → List ℕ → List ℕ → List ℕ → List ℕ → Storage
-lent current timed weeks tows counts satellites statuses =
-    record {
-      current = current;
-      timed = timed;
-      weeks = weeks;
-      tows = tows;
-      counts = counts;
-      satellites = satellites;
-      statuses = statuses;
-    }
+-- the code's place has the numbers of place p
+pub record IsPlace (o : Storage) (p : ℕ) (here : Place) : Type 0 where
+  pub timed_is : here.timed ≡ get_or o.timed p false
+  pub week_is : here.week ≡ get_or o.weeks p 0
+  pub tow_is : here.tow ≡ get_or o.tows p 0
+  pub count_is : here.count ≡ get_or o.counts p 0
 
--- the tests of the searches: a place has that time, a message is the satellite's
-abbrev pub time_is : List Bool → List ℕ → List ℕ → ℕ → ℕ → ℕ → Bool
-time_is timed weeks tows week time p = is_time (get_or timed p false) (get_or weeks p 0) (get_or tows p 0) week time
+-- place p of the record; an empty one past its places
+abbrev pub nowhere : Place
+nowhere = record { timed = false; count = 0; week = 0; tow = 0 }
 
+abbrev pub nth : MackStorage → ℕ → Place
+nth r p = get_or r.places p nowhere
+
+-- the test of a search: a message is the satellite's
 abbrev pub sent_by : List ℕ → ℕ → ℕ → ℕ → Bool
 sent_by satellites at satellite j = eqb (get_or satellites (at + j) 0) satellite
 
--- the lists of a store have the lengths of so many messages and times ..
+-- the lists of a store have the lengths of so many messages and times
 pub record Long (messages times : ℕ) (o : Storage) : Type 0 where
   pub timed_long : length o.timed ≡ times
   pub weeks_long : length o.weeks ≡ times
@@ -36,31 +38,16 @@ pub record Long (messages times : ℕ) (o : Storage) : Type 0 where
   pub satellites_long : length o.satellites ≡ messages * times
   pub statuses_long : length o.statuses ≡ messages * times
 
--- .. and the messages can be counted
-pub record Fits (messages times : ℕ) (o : Storage) : Type 0 where
-  pub long : Long messages times o
-  pub few : messages * times ≤ 65535
-
--- what is asked, as the definitions have it
-abbrev pub asked_of : AskedFor → Asked
-asked_of a = record { satellite = a.satellite; week = a.week; time = a.time }
-
 -- where a message goes, or why not
-abbrev pub Admits : ℕ → ℕ → Storage → Asked → ℕ → Admitted → Type 0
-Admits messages times o a status (NotAdmitted n) = (n ≡ refusal (entry_checks messages times o a status)) × (n ≡ 0 → ⊥)
-Admits messages times o a status (At p j) =
-    (refusal (entry_checks messages times o a status) ≡ 0) × (p ≡ place_for times o a.week a.time) × (j ≡ number_for o a.week a.time)
+abbrev pub Admits : ℕ → ℕ → Storage → Asked → ℕ → Result Slot Refusal → Type 0
+Admits messages times o a status (Err e) = refusal_number e ≡ refusal (entry_checks messages times o a status)
+Admits messages times o a status (Ok s) =
+    (0 ≡ refusal (entry_checks messages times o a status)) × (s.place ≡ place_for times o a.week a.time) × (s.number ≡ number_for o a.week a.time)
 
--- the same of the current place's own numbers, where nothing else is refused
-abbrev pub full_at : ℕ → Bool → ℕ → ℕ → ℕ → Asked → Bool
-full_at messages timed week tow count a = is_time timed week tow a.week a.time && eqb count messages
+-- the place that asking a time reaches, of 12
+abbrev pub Reaches : Storage → ℕ → ℕ → Option ℕ → Type 0
+Reaches o week time (Some p) = (p ≡ reached 12 o week time) × (p < 12)
+Reaches o week time None = 12 ≤ reached 12 o week time
 
-abbrev pub moves_at : Bool → ℕ → ℕ → Asked → Bool
-moves_at timed week tow a = timed && not (is_time timed week tow a.week a.time)
-
-abbrev pub AdmitsAt : ℕ → ℕ → ℕ → Bool → ℕ → ℕ → ℕ → Asked → ℕ → Admitted → Type 0
-AdmitsAt messages times current timed week tow count a status (NotAdmitted n) =
-    (n ≡ refusal (status_checks status (full_at messages timed week tow count a))) × (n ≡ 0 → ⊥)
-AdmitsAt messages times current timed week tow count a status (At p j) =
-    (refusal (status_checks status (full_at messages timed week tow count a)) ≡ 0)
-    × (p ≡ cond (moves_at timed week tow a) (next_place times current) current) × (j ≡ cond (moves_at timed week tow a) 0 count)
+abbrev pub FindsFirst : Storage → ℕ → ℕ → Option MackFound → Type 0
+FindsFirst o p satellite r = meaning_found r ≡ found 36 o p satellite

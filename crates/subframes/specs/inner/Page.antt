@@ -3,13 +3,8 @@
 use Rattle.std.specs.Prelude.{ℕ, ◌-◌, ◌≡◌, List, Bool, true, false, get_or, eqb}
 use Rattle.layouts.specs.Answer.{Answer, nothing}
 use Rattle.subframes.specs.Subframe.{State, Page, Fed, subframe_of, is_silent, out_of, is_used, offered, feed}
-use Rattle.subframes.specs.declared.page.Entry.{Entry}
 use Rattle.subframes.specs.declared.page.PageTaken.{PageTaken}
 use Rattle.subframes.specs.declared.page.PageTaken.TheVariants.{Unused, Used, Last}
-
--- a page from its bytes, and whose it is
-abbrev pub page_of : Entry → List ℕ → Page
-page_of e bytes = record { bytes = bytes; satellite = e.satellite; week = e.week; time = e.time }
 
 -- a state whose counts are lent
 abbrev pub state_of : ℕ → ℕ → List ℕ → List ℕ → List ℕ → State

@@ -1,14 +1,12 @@
 -- What private functions of `subframe` need and do.
 -- Assumes nothing.
-use Rattle.std.specs.Prelude.{ℕ, ◌+◌, ◌*◌, ◌≤◌, ◌<◌, ◌≡◌, List, [], ◌∷◌, get_or}
-use Rattle.subframes.specs.declared.subframe.SubframeShown.{SubframeShown}
-use Rattle.subframes.specs.declared.subframe.SubframeShown.TheVariants.{Shown, Nothing, Refused}
+use Rattle.std.specs.Prelude.{ℕ, ◌+◌, ◌*◌, ◌≤◌, ◌<◌, ◌≡◌, List, [], ◌∷◌, get_or, Option, Some, None}
+use Rattle.layouts.specs.declared.part.Part.{Part}
 
 -- what is shown lies within that many bytes
-abbrev pub Inside : SubframeShown → ℕ → Type 0
-Inside (Shown first many) len = first + many ≤ len
-Inside Nothing len = Unit {0}
-Inside (Refused n) len = Unit {0}
+abbrev pub Inside : Option Part → ℕ → Type 0
+Inside None len = Unit {0}
+Inside (Some p) len = p.first + p.many ≤ len
 
 -- bytes as one number, the first byte lowest
 unfoldable pub packed : List ℕ → ℕ

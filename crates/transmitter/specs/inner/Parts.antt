@@ -1,8 +1,24 @@
 -- What the private functions of the writers do.
 -- Assumes nothing.
-use Rattle.std.specs.Prelude.{ℕ, ◌+◌, ◌^◌, ◌<◌, List, ◌++◌, length, take, drop}
+use Rattle.std.specs.Prelude.{ℕ, zero, suc, ◌+◌, ◌^◌, ◌<◌, List, ◌++◌, length, take, drop, map, Result, Ok, Err}
+use Rattle.layouts.specs.Bits.{Field, row}
+use Rattle.layouts.specs.declared.bits.Field.{Field as Row}
+use Rattle.layouts.specs.declared.refusal.Refusal.{Refusal}
+use Rattle.layouts.specs.declared.refusal.Refusal.TheVariants.{Reserved}
 use Rattle.transmitter.specs.declared.kroot.KrootValues.{KrootValues}
 use Rattle.transmitter.specs.declared.pkr.PkrValues.{PkrValues}
+
+-- a size or a count; where it is 0 its code is reserved
+abbrev pub sized : ℕ → Result ℕ Refusal
+sized zero = Err Reserved
+sized (suc n) = Ok (suc n)
+
+-- values with their rows
+abbrev pub rows_of : List (ℕ × Row) → List Field
+rows_of l = map (λ (p : ℕ × Row). row "" p.1.first p.1.width) l
+
+abbrev pub values_of : List (ℕ × Row) → List ℕ
+values_of l = map (λ (p : ℕ × Row). p.0) l
 
 -- bytes from a place on
 abbrev pub put_at : List ℕ → ℕ → List ℕ → List ℕ

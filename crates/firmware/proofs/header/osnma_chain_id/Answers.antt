@@ -1,10 +1,9 @@
 -- `osnma_chain_id`: a byte, or 7.
 -- Assumes nothing.
-use Rattle.firmware.proofs.Telling.{header_wide, header_told}
+use Rattle.std.proofs.Common.{rules}
+use Rattle.firmware.proofs.Telling.{told_by_lem, header_told}
 use Rattle.firmware.proofs.header.osnma_chain_id.Goals as goal
 
-pub returns-then-header-gt255 : goal.returns-then-header-gt255
-returns-then-header-gt255 c = search header_wide
-
 pub returns : goal.returns
-returns c = search header_told
+returns c =
+    told_by_lem c.args.value.now (header_told _ _ _ _ c.byte.ensures c.map.ensures.cases (λ x w e q. search rules)) c.number.ensures

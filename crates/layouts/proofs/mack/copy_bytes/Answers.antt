@@ -1,37 +1,21 @@
 -- `mack::copy_bytes`: before each turn the first `i` bytes are copied.
 -- Assumes nothing.
-use Prim.Native.Nat.{◌+◌}
+use mathlib.Core.Path.{◌≡◌, ap, ◌∙◌}
+use Prim.Native.Nat.{ℕ}
 use native.Mathlib.Omega.{arith}
-use Rattle.layouts.proofs.Tags.{key_begun, whole_turn, key_copied_lem}
+use lib.ListN.{length, take, drop}
+use Rattle.layouts.proofs.Copies.{copy_turn, copy_all}
 use Rattle.layouts.proofs.mack.copy_bytes.Goals as goal
-
-pub loop-i-init : goal.loop-i-init
-loop-i-init c = key_begun _ _ _
-
-pub overflow_add-out : goal.overflow_add-out
-overflow_add-out c = omega arith
-
-pub bounds-msg-first : goal.bounds-msg-first
-bounds-msg-first c = omega arith
-
-pub bounds-out-i : goal.bounds-out-i
-bounds-out-i c = omega arith
-
-pub overflow_add-i : goal.overflow_add-i
-overflow_add-i c = omega arith
-
-pub loop-i-smaller : goal.loop-i-smaller
-loop-i-smaller c = omega arith
 
 pub loop-i-preserved : goal.loop-i-preserved
 loop-i-preserved c =
     let a = c.args in
     let h = c.loop-i in
-    whole_turn a.msg.now a.out.now h.out a.first h.i h.invariant (omega arith)
-    (omega (arith, c.type_inv.msg (a.first + h.i)))
-
-pub shape_of-out : goal.shape_of-out
-shape_of-out c = c.loop-i.invariant.long
+    copy_turn a.msg.now a.out.now h.out a.first h.i h.invariant (omega arith) (omega arith)
 
 pub returns : goal.returns
-returns c = key_copied_lem c.loop-i.invariant (omega arith)
+returns c =
+    let a = c.args in
+    let h = c.loop-i in
+    let all : h.i ≡ length a.out.now = omega arith in
+    h.invariant ∙ copy_all (drop a.first a.msg.now) a.out.now h.i (omega arith) ∙ ap (λ (k : ℕ). take k (drop a.first a.msg.now)) all

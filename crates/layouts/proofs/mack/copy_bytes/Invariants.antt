@@ -1,12 +1,9 @@
 -- `mack::copy_bytes`: before each turn the first `i` bytes are copied.
 -- Assumes nothing.
-use Prim.Native.Nat.{◌-◌, ◌*◌}
-use lib.ListN.{length}
-use Rattle.layouts.proofs.Tags.{Begun}
+use mathlib.Core.Path.{◌≡◌}
+use mathlib.Core.List.{◌++◌}
+use lib.ListN.{take, drop}
 use Rattle.layouts.proofs.mack.copy_bytes.Given as goal
 
 abbrev pub invariant-loop-i : goal.invariant-loop-i
-invariant-loop-i l = Begun l.msg l.initial.out (8 * l.first) l.i l.out
-
-abbrev pub decreases-loop-i : goal.decreases-loop-i
-decreases-loop-i l = length l.initial.out - l.i
+invariant-loop-i l = l.out ≡ take l.i (drop l.first l.msg) ++ drop l.i l.initial.out

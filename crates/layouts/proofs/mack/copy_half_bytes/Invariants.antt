@@ -1,12 +1,13 @@
 -- `mack::copy_half_bytes`: before each turn the first `i` bytes are copied.
 -- Assumes nothing.
-use Prim.Native.Nat.{◌+◌, ◌-◌, ◌*◌}
-use lib.ListN.{length}
-use Rattle.layouts.proofs.Tags.{Begun}
+use mathlib.Core.Path.{◌≡◌}
+use mathlib.Core.List.{◌++◌}
+use Prim.Native.Nat.{◌+◌, ◌*◌}
+use lib.ListN.{length, take, drop}
+use Rattle.layouts.specs.Bits.{bytes_from}
 use Rattle.layouts.proofs.mack.copy_half_bytes.Given as goal
 
 abbrev pub invariant-loop-i : goal.invariant-loop-i
-invariant-loop-i l = Begun l.msg l.initial.out (8 * l.first + 4) l.i l.out
-
-abbrev pub decreases-loop-i : goal.decreases-loop-i
-decreases-loop-i l = length l.initial.out - l.i
+invariant-loop-i l =
+    let d = l.initial.out in
+    l.out ≡ take l.i (bytes_from l.msg (8 * l.first + 4) (length d)) ++ drop l.i d

@@ -6,5 +6,5 @@ use Rattle.listing.proofs.put.dsm.Goals as goal
 pub returns-in-None : goal.returns-in-None
 returns-in-None c = search no_dsm
 
-pub returns-in-Dsm : goal.returns-in-Dsm
-returns-in-Dsm c = search a_dsm
+pub returns-in-Some : goal.returns-in-Some
+returns-in-Some c = search a_dsm

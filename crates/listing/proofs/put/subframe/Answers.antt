@@ -7,5 +7,5 @@ use Rattle.listing.proofs.put.subframe.Goals as goal
 pub returns-in-None : goal.returns-in-None
 returns-in-None c = search (no_subframe, rules)
 
-pub returns-in-Subframe : goal.returns-in-Subframe
-returns-in-Subframe c = search a_subframe
+pub returns-in-Some : goal.returns-in-Some
+returns-in-Some c = search a_subframe

@@ -5,4 +5,4 @@ use Rattle.page_replay.proofs.PageSteps.{skipped_is}
 use Rattle.page_replay.proofs.page_step.skip.Goals as goal
 
 pub returns : goal.returns
-returns c = λ h m d. skipped_is (state c.args.«record» h m d) c.later-at.ensures
+returns c = λ h m d. skipped_is (state c.args.«record» h m d) c.later-replay.ensures.satellite c.later-replay.ensures.time

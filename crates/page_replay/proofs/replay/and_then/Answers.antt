@@ -1,18 +1,18 @@
 -- `replay::and_then`: the page step, and of what it and the pages before completed the one that is there.
 -- Assumes nothing.
+use mathlib.Core.Path.{ap, ◌∙◌}
+use Rattle.page_replay.specs.ReplayPromises.{meaning_subframes, meaning_dsms}
 use Rattle.page_replay.specs.inner.Steps.{ran}
-use Rattle.page_replay.proofs.PageSteps.{and_then_is, subframe_at_most, dsm_at_most}
+use Rattle.page_replay.proofs.PageSteps.{and_then_is, subframe_at_most, dsm_at_most, one_subframe, one_dsm}
 use Rattle.page_replay.proofs.replay.and_then.Goals as goal
-
-pub either_subframe-subframe-requires : goal.either_subframe-subframe-requires
-either_subframe-subframe-requires c =
-    subframe_at_most (ran c.args.so_far c.args.hkroot.now c.args.mack.now c.args.dsm.now) c.args.page.now {x = ran c.page_step-next.result c.page_step-next.new.hkroot c.page_step-next.new.mack c.page_step-next.new.dsm} c.page_step-next.ensures c.requires.at_most_one
-
-pub either_dsm-completed-requires : goal.either_dsm-completed-requires
-either_dsm-completed-requires c =
-    dsm_at_most (ran c.args.so_far c.args.hkroot.now c.args.mack.now c.args.dsm.now) c.args.page.now {x = ran c.page_step-next.result c.page_step-next.new.hkroot c.page_step-next.new.mack c.page_step-next.new.dsm} c.page_step-next.ensures c.requires.at_most_one
 
 pub returns : goal.returns
 returns c =
-    and_then_is (ran c.args.so_far c.args.hkroot.now c.args.mack.now c.args.dsm.now) c.args.page.now {x = ran c.page_step-next.result c.page_step-next.new.hkroot c.page_step-next.new.mack c.page_step-next.new.dsm} c.page_step-next.ensures c.either_subframe-subframe.ensures
-    c.either_dsm-completed.ensures
+    let a = c.args in
+    let p = c.page_step-next in
+    let r = ran a.so_far a.hkroot.now a.mack.now a.dsm.now in
+    let x = ran p.result p.new.hkroot p.new.mack p.new.dsm in
+    let few = c.requires.at_most_one in
+    and_then_is r a.page.now {x = x} p.ensures
+    (ap meaning_subframes c.or.ensures ∙ one_subframe a.so_far.subframe p.result.subframe (subframe_at_most r a.page.now {x = x} p.ensures few))
+    (ap meaning_dsms c.or-2.ensures ∙ one_dsm a.so_far.dsm p.result.dsm (dsm_at_most r a.page.now {x = x} p.ensures few))

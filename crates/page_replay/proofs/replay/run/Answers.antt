@@ -1,6 +1,5 @@
 -- `replay::run`: before each turn the state is what the first `k` pages make of the record.
 -- Assumes nothing.
-use borrow.Author.Rules.{rules}
 use Prim.Native.Nat.{ℕ}
 use mathlib.Core.Path.{◌≡◌, refl, ap, ◌∙◌}
 use native.Mathlib.Omega.{arith}
@@ -12,34 +11,26 @@ use Rattle.page_replay.proofs.replay.run.Goals as goal
 
 pub loop-k-init : goal.loop-k-init
 unfolding replayed pages_of
-loop-k-init c = (omega arith, refl, refl, refl, refl)
+loop-k-init c = refl
 
 pub and_then-so_far-requires : goal.and_then-so_far-requires
 and_then-so_far-requires c =
     let first = sound_first c.args.«record» _ _ _ c.requires.0 c.requires.1 in
     let h = c.loop-k in record {
       in_range = (
-        turn_range (state c.args.«record» c.args.hkroot.now c.args.mack.now c.args.dsm.now) c.args.pages.now h.k h.so_far h.hkroot h.mack h.dsm h.invariant.1 first,
-        turn_room (state c.args.«record» c.args.hkroot.now c.args.mack.now c.args.dsm.now) c.args.pages.now h.k h.so_far h.hkroot h.mack h.dsm h.invariant.1 first (omega arith),
+        turn_range (state c.args.«record» c.args.hkroot.now c.args.mack.now c.args.dsm.now) c.args.pages.now h.k h.so_far h.hkroot h.mack h.dsm h.invariant first,
+        turn_room (state c.args.«record» c.args.hkroot.now c.args.mack.now c.args.dsm.now) c.args.pages.now h.k h.so_far h.hkroot h.mack h.dsm h.invariant first (omega arith),
         slice_long c.args.pages.now h.k c.args.n (omega arith) c.requires.3,
       );
-      at_most_one = turn_one (state c.args.«record» c.args.hkroot.now c.args.mack.now c.args.dsm.now) c.args.pages.now h.k h.so_far h.hkroot h.mack h.dsm h.invariant.1 (slice_30 c.args.pages.now h.k) (omega arith);
+      at_most_one = turn_one (state c.args.«record» c.args.hkroot.now c.args.mack.now c.args.dsm.now) c.args.pages.now h.k h.so_far h.hkroot h.mack h.dsm h.invariant (slice_30 c.args.pages.now h.k) (omega arith);
     }
 
-pub loop-k-smaller : goal.loop-k-smaller
-loop-k-smaller c = omega arith
-
 pub loop-k-preserved : goal.loop-k-preserved
-loop-k-preserved c = (
-  omega arith,
-  let p = c.and_then-so_far in
-      let h = c.loop-k in
-      turn_again (state c.args.«record» c.args.hkroot.now c.args.mack.now c.args.dsm.now) c.args.pages.now h.k h.so_far h.hkroot h.mack h.dsm h.invariant.1 (slice_30 c.args.pages.now h.k)
-      {y = ran p.result p.new.hkroot p.new.mack p.new.dsm} p.ensures,
-  search rules,
-  search rules,
-  search rules,
-)
+loop-k-preserved c =
+    let p = c.and_then-so_far in
+    let h = c.loop-k in
+    turn_again (state c.args.«record» c.args.hkroot.now c.args.mack.now c.args.dsm.now) c.args.pages.now h.k h.so_far h.hkroot h.mack h.dsm h.invariant (slice_30 c.args.pages.now h.k)
+    {y = ran p.result p.new.hkroot p.new.mack p.new.dsm} p.ensures
 
 pub returns : goal.returns
 returns c =
@@ -47,4 +38,4 @@ returns c =
     let h = c.loop-k in
     let end : h.k ≡ a.n = omega arith in
     let s = state a.«record» a.hkroot.now a.mack.now a.dsm.now in
-    h.invariant.1 ∙ ap (λ (k : ℕ). replayed s (pages_of k a.pages.now)) end
+    h.invariant ∙ ap (λ (k : ℕ). replayed s (pages_of k a.pages.now)) end

@@ -1,31 +1,30 @@
--- `slots::walk_tags`: before each turn the tags before `n` fit, so that what is left, walked from tag `n` on, gives what all gives.
+-- `slots::walk_tags`: before each turn the tags before `tag` fit, so that what is left, walked from it on, gives what all gives.
 -- Assumes nothing.
 use native.Mathlib.Omega.{arith}
-use mathlib.Core.Path.{refl}
-use Rattle.recorder.proofs.WalkTags.{tags_known, tag_readable, slot_known, fits_on, breaks_here, all_walked}
+use Rattle.recorder.proofs.WalkTags.{tags_known, tag_ready, fits_on, breaks_here, all_walked}
 use Rattle.recorder.proofs.slots.walk_tags.Goals as goal
 
-pub loop-n-init : goal.loop-n-init
-loop-n-init c =
-    let few = tags_known c.args.mack.now c.args.key_size_bytes c.args.tag_size_bits c.requires.0 in
-    (omega arith, omega (arith, few.0), refl)
+pub tag_breaks-requires : goal.tag_breaks-requires
+tag_breaks-requires c =
+    let m = c.args.mack in
+    tag_ready m.msg.now m.sizes.key_bytes m.sizes.tag_bits c.args.maclt c.args.msg c.requires c.from.ensures c.loop-tag.auto.tag c.loop-tag-test.true
 
-pub tag_fit-requires : goal.tag_fit-requires
-tag_fit-requires c =
-    let a = c.args in
-    let h = c.loop-n in (
-      tag_readable a.mack.now a.key_size_bytes a.tag_size_bits c.requires.0 h.n h.invariant.0 c.loop-n-test.true,
-      slot_known a.maclt a.msg c.requires.1 c.requires.2 h.n h.invariant.0 c.loop-n-test.true,
-    )
+pub returns-in-Some : goal.returns-in-Some
+returns-in-Some c =
+    let h = c.loop-tag in
+    breaks_here c.args.mack.msg.now c.args.mack.sizes.tag_bits c.args.sender c.args.maclt c.args.msg h.tag c.requires.2 h.auto.tag c.loop-tag-test.true
+    h.invariant c.from.ensures c.tag_breaks.result c.tag_breaks.ensures c.in-Some.field c.in-Some.is
 
-pub returns-in-Breaks : goal.returns-in-Breaks
-returns-in-Breaks c = search breaks_here
-
-pub loop-n-preserved : goal.loop-n-preserved
-loop-n-preserved c = (omega arith, omega arith, search fits_on)
+pub loop-tag-preserved : goal.loop-tag-preserved
+loop-tag-preserved c =
+    let h = c.loop-tag in
+    fits_on c.args.mack.msg.now c.args.mack.sizes.tag_bits c.args.sender c.args.maclt c.args.msg h.tag c.requires.2 h.auto.tag c.loop-tag-test.true
+    h.invariant c.from.ensures c.tag_breaks.result c.tag_breaks.ensures c.in_default.is
 
 pub returns : goal.returns
 returns c =
-    let h = c.loop-n in
-    all_walked c.args.mack.now c.args.tag_size_bits c.args.sender c.args.maclt c.args.msg h.n c.requires.2 h.invariant.0
-    (omega (arith, h.invariant.1, c.loop-n-test.false)) h.invariant.2
+    let h = c.loop-tag in
+    let m = c.args.mack in
+    let some = (tags_known m.msg.now m.sizes.key_bytes m.sizes.tag_bits c.requires.0).0 in
+    all_walked m.msg.now m.sizes.tag_bits c.args.sender c.args.maclt c.args.msg h.tag c.requires.2 h.auto.tag
+    (omega (arith, some, h.auto.tag-end, c.loop-tag-test.false)) h.invariant

@@ -1,10 +1,7 @@
--- `stream::piece`: the piece is used up.
+-- `stream::piece`: the rest becomes shorter at each turn. Nothing has to hold from turn to turn.
 -- Assumes nothing.
-use Rattle.std.proofs.Common.{◌≤◌, length}
+use Rattle.std.proofs.Common.{length}
 use Rattle.replay.proofs.stream.piece.Given as goal
 
-abbrev pub invariant-loop-left : goal.invariant-loop-left
-invariant-loop-left g l = l.left ≤ length l.piece
-
-abbrev pub decreases-loop-left : goal.decreases-loop-left
-decreases-loop-left g l = l.left
+abbrev pub decreases-loop-rest : goal.decreases-loop-rest
+decreases-loop-rest g l = length l.rest

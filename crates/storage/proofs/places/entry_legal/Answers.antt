@@ -1,13 +1,14 @@
 -- `places::entry_legal`: each part of the definition.
 -- Assumes nothing.
-use Rattle.storage.proofs.StoreRecord.{entry_low, entry_high, entry_status}
+use native.Mathlib.Omega.{arith}
+use Rattle.std.proofs.lemmas.Bool.Decides.{nat_tests}
+use Rattle.storage.specs.Store.{legal_entry}
 use Rattle.storage.proofs.places.entry_legal.Goals as goal
 
-pub returns-then-satellite-lt1 : goal.returns-then-satellite-lt1
-returns-then-satellite-lt1 c = search entry_low
+pub returns-then-satellite-le36 : goal.returns-then-satellite-le36
+unfolding legal_entry
+returns-then-satellite-le36 c = grind (arith, nat_tests)
 
-pub returns-then-satellite-gt36 : goal.returns-then-satellite-gt36
-returns-then-satellite-gt36 c = search entry_high
-
-pub returns : goal.returns
-returns c = search entry_status
+pub returns-else-satellite-le36 : goal.returns-else-satellite-le36
+unfolding legal_entry
+returns-else-satellite-le36 c = grind (arith, nat_tests)

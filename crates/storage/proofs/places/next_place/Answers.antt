@@ -1,10 +1,14 @@
 -- `places::next_place`: the last place is followed by place 0.
 -- Assumes nothing.
-use Rattle.storage.proofs.StoreRecord.{next_last, next_other}
+use native.Mathlib.Omega.{arith}
+use Rattle.std.proofs.lemmas.Bool.Decides.{nat_tests}
+use Rattle.storage.specs.Store.{next_place}
 use Rattle.storage.proofs.places.next_place.Goals as goal
 
-pub returns-then-p-times : goal.returns-then-p-times
-returns-then-p-times c = search next_last
+pub returns-then-p-eq11 : goal.returns-then-p-eq11
+unfolding next_place
+returns-then-p-eq11 c = grind (arith, nat_tests)
 
-pub returns : goal.returns
-returns c = search next_other
+pub returns-else-p-eq11 : goal.returns-else-p-eq11
+unfolding next_place
+returns-else-p-eq11 c = grind (arith, nat_tests)

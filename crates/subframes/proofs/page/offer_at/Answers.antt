@@ -8,11 +8,11 @@ keep-requires c =
     let a = c.args in
     let t = c.take-taken in
     let q = c.requires in
-    let r = count_rises a.counts.now a.hkroot.now a.mack.now a.page.now a.i a.word t.result t.ensures q.4 c.in-Used.is in
+    let r = count_rises a.counts.now a.hkroot.now a.mack.now a.page.now a.i a.word t.result t.ensures q.4 c.in-Ok-true.is c.in-Ok-true.field-0-test in
     (q.0, q.1, q.2, q.3, q.4, r.0, r.1)
 
-pub returns-in-Refused : goal.returns-in-Refused
-returns-in-Refused c = search count_refuses
+pub returns-in_default : goal.returns-in_default
+returns-in_default c = search count_stays
 
-pub returns-in-Unused : goal.returns-in-Unused
-returns-in-Unused c = search count_stays
+pub returns-in_default-2 : goal.returns-in_default-2
+returns-in_default-2 c = search count_refuses

@@ -1,16 +1,24 @@
 -- `subframe::hkroot_message`: the bytes that `view_shown` tells of.
 -- Assumes nothing.
+use Rattle.subframes.specs.SubframePromises.{meaning_message}
 use Rattle.subframes.proofs.Pages.{message_refused, message_nothing, message_bytes, message_room_15}
+use Rattle.layouts.proofs.Refused.{carry}
 use Rattle.subframes.proofs.subframe.hkroot_message.Goals as goal
 
-pub message_at-requires : goal.message_at-requires
-message_at-requires c = search message_room_15
+pub returns-in_err-part : goal.returns-in_err-part
+returns-in_err-part c =
+    let a = c.args in
+    carry meaning_message _ _ c.from_residual.ensures.1 (message_refused a.collector a.hkroot.now a.mack.now a.satellite _ c.in_err-part.ensures)
 
-pub returns-in-Refused : goal.returns-in-Refused
-returns-in-Refused c = search message_refused
+pub returns-in_default : goal.returns-in_default
+returns-in_default c =
+    let a = c.args in message_nothing a.collector a.hkroot.now a.mack.now a.satellite c.in_ok-part.ensures c.in_default.is
 
-pub returns-in-Nothing : goal.returns-in-Nothing
-returns-in-Nothing c = search message_nothing
+pub message_at-bytes-requires : goal.message_at-bytes-requires
+message_at-bytes-requires c =
+    let a = c.args in message_room_15 a.collector a.hkroot.now a.mack.now a.satellite c.in_ok-part.ensures c.in-Some.is
 
-pub returns-in-Shown : goal.returns-in-Shown
-returns-in-Shown c = search message_bytes
+pub returns : goal.returns
+returns c =
+    let a = c.args in
+    message_bytes a.collector a.hkroot.now a.mack.now a.satellite c.in_ok-part.ensures c.in-Some.is c.message_at-bytes.ensures

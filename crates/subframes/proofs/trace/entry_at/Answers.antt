@@ -4,4 +4,4 @@ use Rattle.subframes.proofs.Entries.{entry_is}
 use Rattle.subframes.proofs.trace.entry_at.Goals as goal
 
 pub returns : goal.returns
-returns c = search entry_is
+returns c = entry_is c.args.trace.now c.args.k c.from_be_bytes.ensures c.from_be_bytes-2.ensures

@@ -1,26 +1,43 @@
--- `trace::feed_entries`: a turn, when its entry's number is known, and when its page was taken.
+-- `trace::feed_entries`: a turn, when its entry was checked, and when its page was taken.
 -- Assumes nothing.
-use mathlib.Core.Path.{sym, ◌∙◌}
+use mathlib.Core.Path.{refl, sym, ◌∙◌}
 use native.Mathlib.Omega.{arith}
+use Rattle.layouts.specs.Refusals.{refusal_number}
+use Rattle.layouts.proofs.Refused.{number_some}
 use Rattle.subframes.specs.SubframePromises.{state}
 use Rattle.subframes.proofs.Entries.{Turn, Taken, turn_first, turn_none, turn_ends, turn_asks, turn_time, turn_satellite}
 use Rattle.subframes.proofs.Entries.{turn_sound, turn_last, turn_goes_on}
 use Rattle.subframes.proofs.trace.feed_entries.Goals as goal
-use Rattle.subframes.proofs.trace.feed_entries.Goals.{After-entry_refuses-refusal, After-take_page-taken}
+use Rattle.subframes.proofs.trace.feed_entries.Goals.{In-Err, In_default, After-take_page-taken}
 
-abbrev turn : After-entry_refuses-refusal → Turn
+abbrev refused_turn : In-Err → Turn
+refused_turn c =
+    record {
+      s₀ = _;
+      s = _;
+      trace = _;
+      k = _;
+      e = c.entry_at-stamp.result;
+      q = refusal_number c.in-Err.refusal;
+      left = c.loop-n.invariant;
+      inside = c.loop-n-test.true;
+      entry_is = c.entry_at-stamp.ensures;
+      number_is = c.in-Err.ensures;
+    }
+
+abbrev turn : In_default → Turn
 turn c =
     record {
       s₀ = _;
       s = _;
       trace = _;
       k = _;
-      e = c.entry_at-entry.result;
-      q = c.entry_refuses-refusal.result;
+      e = c.entry_at-stamp.result;
+      q = 0;
       left = c.loop-n.invariant;
       inside = c.loop-n-test.true;
-      entry_is = c.entry_at-entry.ensures;
-      number_is = c.entry_refuses-refusal.ensures;
+      entry_is = c.entry_at-stamp.ensures;
+      number_is = c.in_default.ensures;
     }
 
 abbrev taken : After-take_page-taken → Taken
@@ -31,14 +48,14 @@ taken c =
         s = _;
         trace = _;
         k = _;
-        e = c.entry_at-entry.result;
-        q = c.entry_refuses-refusal.result;
+        e = c.entry_at-stamp.result;
+        q = 0;
         left = c.loop-n.invariant;
         inside = c.loop-n-test.true;
-        entry_is = c.entry_at-entry.ensures;
-        number_is = c.entry_refuses-refusal.ensures;
+        entry_is = c.entry_at-stamp.ensures;
+        number_is = c.in_default.ensures;
       };
-      passed = c.if-refusal-ne0.false;
+      passed = refl;
       r = c.take_page-taken.result;
       counts = _;
       hkroot = _;
@@ -50,12 +67,11 @@ pub loop-n-init : goal.loop-n-init
 loop-n-init c =
     let a = c.args in turn_first (state a.collector a.hkroot.now a.mack.now) a.trace.now c.requires
 
-pub returns-then-refusal-ne0 : goal.returns-then-refusal-ne0
-returns-then-refusal-ne0 c =
-    turn_ends (turn (goal.at.returns-then-refusal-ne0 c).After-entry_refuses-refusal) c.if-refusal-ne0.true c.ended.ensures (c.fed.ensures _ _)
+pub returns-in-Err : goal.returns-in-Err
+returns-in-Err c = turn_ends (refused_turn (goal.at.returns-in-Err c).In-Err) (number_some c.in-Err.refusal) c.ended.ensures (c.fed.ensures _ _)
 
 pub take_page-taken-requires : goal.take_page-taken-requires
-take_page-taken-requires c = turn_asks (turn (goal.at.take_page-taken-requires c).After-entry_refuses-refusal) c.if-refusal-ne0.false
+take_page-taken-requires c = turn_asks (turn (goal.at.take_page-taken-requires c).In_default) refl
 
 pub overflow_cast-subframe : goal.overflow_cast-subframe
 overflow_cast-subframe c = let w = taken (goal.at.overflow_cast-subframe c).After-take_page-taken in omega (arith, turn_time w.turn w.passed)
@@ -72,7 +88,7 @@ is_silent-silent-requires c =
 pub returns-then-is_last : goal.returns-then-is_last
 returns-then-is_last c =
     turn_last (taken (goal.at.returns-then-is_last c).After-take_page-taken) (sym c.is_last.ensures ∙ c.if-is_last.true) c.is_silent-silent.ensures
-    c.out_of-answer.ensures (c.fed-then-is_last.ensures _ _)
+    c.out_of-pair.ensures (c.fed-then-is_last.ensures _ _)
 
 pub loop-n-preserved : goal.loop-n-preserved
 loop-n-preserved c = turn_goes_on (taken (goal.at.loop-n-preserved c).After-take_page-taken) (sym c.is_last.ensures ∙ c.if-is_last.false)

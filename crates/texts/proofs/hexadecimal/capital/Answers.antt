@@ -6,5 +6,5 @@ use Rattle.texts.proofs.hexadecimal.capital.Goals as goal
 pub returns-then-k-eq0 : goal.returns-then-k-eq0
 returns-then-k-eq0 c = search capital_even
 
-pub returns : goal.returns
-returns c = search capital_odd
+pub returns-else-k-eq0 : goal.returns-else-k-eq0
+returns-else-k-eq0 c = search capital_odd

@@ -1,14 +1,15 @@
--- `hexadecimal::is_hexadecimal`: before each turn the first `i` bytes are digits.
+-- `hexadecimal::is_hexadecimal`: an odd byte, or the test of each.
 -- Assumes nothing.
-use native.Mathlib.Omega.{arith}
-use Rattle.texts.proofs.Hexadecimals.{hex_none, hex_more, not_hex}
+use mathlib.Core.Path.{◌≡◌}
+use mathlib.Core.Bool.{true, false}
+use Rattle.std.proofs.Common.{rules}
+use Rattle.std.proofs.lemmas.Iterator.{cases_from_all, YieldsList-from_slice}
+use Rattle.texts.specs.Hexadecimal.{is_hex_digit}
+use Rattle.texts.proofs.Hexadecimals.{hexdigit_told, all_hex}
 use Rattle.texts.proofs.hexadecimal.is_hexadecimal.Goals as goal
 
-pub loop-i-init : goal.loop-i-init
-loop-i-init c = (omega arith, search hex_none)
-
-pub returns-then-digit-gt15 : goal.returns-then-digit-gt15
-returns-then-digit-gt15 c = search not_hex
-
-pub loop-i-preserved : goal.loop-i-preserved
-loop-i-preserved c = (omega arith, search hex_more)
+pub returns-then-text-eq0 : goal.returns-then-text-eq0
+returns-then-text-eq0 c =
+    let cases = cases_from_all _ _ _ (λ x. is_hex_digit x ≡ true) (λ x. is_hex_digit x ≡ false) c.all.ensures.ran (YieldsList-from_slice c.args.text.now cc)
+    (λ x q k. search (rules, hexdigit_told)) (λ x q k. search (rules, hexdigit_told)) in
+    all_hex c.args.text.now c.all.result c.if-text-eq0.true cases

@@ -1,10 +1,14 @@
 -- `hexadecimal::letter`: a digit, or a letter.
 -- Assumes nothing.
-use Rattle.texts.proofs.Hexadecimals.{low_letter, high_letter}
+use native.Mathlib.Omega.{arith}
+use Rattle.std.proofs.lemmas.Grind.{common_steps}
+use Rattle.texts.specs.Hexadecimal.{letter}
 use Rattle.texts.proofs.hexadecimal.letter.Goals as goal
 
-pub returns-then-d-lt10 : goal.returns-then-d-lt10
-returns-then-d-lt10 c = search low_letter
+pub returns-in-0-to-9 : goal.returns-in-0-to-9
+unfolding letter
+returns-in-0-to-9 c = grind (arith, common_steps)
 
-pub returns : goal.returns
-returns c = search high_letter
+pub returns-in_default : goal.returns-in_default
+unfolding letter
+returns-in_default c = grind (arith, common_steps)

@@ -1,29 +1,36 @@
 -- `pkr::write_pkr`: the refusals, then the parts.
 -- Assumes nothing.
-use Prim.Native.Nat.{◌+◌, ◌≤◌}
-use lib.ListN.{length}
+use mathlib.Core.Path.{refl}
 use native.Mathlib.Omega.{arith}
+use Rattle.transmitter.specs.WritePromises.{pkr_of}
 use Rattle.transmitter.proofs.Putting.{pkr_refused, pkr_halves, pkr_nodes_long, pkr_fits, pkr_long, pkr_id, pkr_kind, pkr_written}
 use Rattle.transmitter.proofs.pkr.write_pkr.Goals as goal
 
-pub returns-then-refusal-ne0 : goal.returns-then-refusal-ne0
-returns-then-refusal-ne0 c = search pkr_refused
+pub returns-in_err-check : goal.returns-in_err-check
+returns-in_err-check c =
+    let a = c.args in
+    pkr_refused a.dsm.now a.id (pkr_of a.values) a.nodes.now a.key.now a.padding.now _ _ c.from_residual.ensures.1 c.in_err-check.ensures
 
 pub put_message-requires : goal.put_message-requires
-put_message-requires c = (search pkr_halves, search pkr_nodes_long, search pkr_fits)
-
-pub overflow_add-bytes : goal.overflow_add-bytes
-overflow_add-bytes c =
+put_message-requires c =
     let a = c.args in
-    let h : 130 + length a.key.now + length a.padding.now ≤ 208 = search pkr_long in omega arith
-
-pub overflow_add-bytes-2 : goal.overflow_add-bytes-2
-overflow_add-bytes-2 c =
-    let a = c.args in
-    let h : 130 + length a.key.now + length a.padding.now ≤ 208 = search pkr_long in omega arith
+    let e = c.in_ok-check.ensures in (
+      pkr_halves a.dsm.now a.id a.values a.nodes.now a.key.now a.padding.now e,
+      pkr_nodes_long a.dsm.now a.id a.values a.nodes.now a.key.now a.padding.now e,
+      pkr_fits a.dsm.now a.id a.values a.nodes.now a.key.now a.padding.now e,
+    )
 
 pub overflow_cast-result : goal.overflow_cast-result
-overflow_cast-result c = let a = c.args in let h : a.id ≤ 15 = search pkr_id in omega arith
+overflow_cast-result c =
+    let a = c.args in omega (arith, pkr_id a.dsm.now a.id a.values a.nodes.now a.key.now a.padding.now c.in_ok-check.ensures)
+
+pub overflow_add-result-2 : goal.overflow_add-result-2
+overflow_add-result-2 c =
+    let a = c.args in omega (arith, pkr_long a.dsm.now a.id a.values a.nodes.now a.key.now a.padding.now c.in_ok-check.ensures)
 
 pub returns : goal.returns
-returns c = search (pkr_written, pkr_kind, pkr_nodes_long)
+returns c =
+    let a = c.args in
+    let e = c.in_ok-check.ensures in
+    pkr_written a.dsm.now a.id (pkr_of a.values) a.nodes.now a.key.now a.padding.now e c.put_message.ensures
+    (pkr_kind a.dsm.now a.id a.values a.nodes.now a.key.now a.padding.now e) (pkr_nodes_long a.dsm.now a.id a.values a.nodes.now a.key.now a.padding.now e) refl

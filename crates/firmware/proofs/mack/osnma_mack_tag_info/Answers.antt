@@ -1,7 +1,0 @@
--- `osnma_mack_tag_info`: what the reader answers.
--- Assumes nothing.
-use Rattle.firmware.proofs.Telling.{told_by_lem}
-use Rattle.firmware.proofs.mack.osnma_mack_tag_info.Goals as goal
-
-pub returns : goal.returns
-returns c = search told_by_lem

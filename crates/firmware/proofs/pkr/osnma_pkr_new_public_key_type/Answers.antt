@@ -1,7 +1,0 @@
--- `osnma_pkr_new_public_key_type`: what the reader answers.
--- Assumes nothing.
-use Rattle.firmware.proofs.Telling.{told_by_lem}
-use Rattle.firmware.proofs.pkr.osnma_pkr_new_public_key_type.Goals as goal
-
-pub returns : goal.returns
-returns c = search told_by_lem

@@ -1,9 +1,0 @@
--- `checksum::each`: the turns are counted down. Nothing has to hold from turn to turn.
--- Assumes nothing.
-use Rattle.vectors.proofs.checksum.each.Given as goal
-
-abbrev pub invariant-loop-turns : goal.invariant-loop-turns
-invariant-loop-turns g l = Unit {0}
-
-abbrev pub decreases-loop-turns : goal.decreases-loop-turns
-decreases-loop-turns g l = l.turns
