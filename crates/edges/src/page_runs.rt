@@ -1,7 +1,7 @@
 // Runs of many pages.
 use crate::pages::Run;
 
-// Byte `i` of an HKROOT message with that DSM header and that first byte of its block.
+// Byte `i` of an HKROOT message with that DSM header and that first byte of its block: by its place, as a page is made of one byte, and no array for each.
 fn byte(header: u8, first: u8, i: u8) -> u8 {
     match i {
         0 => 146,

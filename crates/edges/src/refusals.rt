@@ -10,7 +10,8 @@ fn fresh() -> PageReplay {
     replay::new(stamp(3, 1200, 60)).replay
 }
 
-// A call that is lent memory of these lengths, at most 540, 2,161 and 208 bytes.
+// A call that is lent memory of these lengths, at most 540, 2,161 and 208 bytes: by slices, since of an array of a constant parameter's length it is not proved
+// that the whole of it is a slice.
 fn lent<R: Print>(
     rt: &R,
     name: &str,

@@ -1,4 +1,5 @@
-// The MACK store. Its record as C has it: arrays of one length side by side, and satellite, week and time one by one, as C hands them over.
+// The MACK store. Its record as C has it: arrays of one length side by side, which a loop over the places takes apart, and satellite, week and time one by one,
+// as C hands them over.
 ghost use Rattle.std.specs.Prelude.{◌≡◌};
 ghost use Rattle.storage.specs.StorePromises.{storage_of as places_of};
 ghost use Rattle.probe.specs.Store.{storage_of, StoreNew, StoreStore, StoreGet};

@@ -1,5 +1,5 @@
 // The subframe collector. Records as C has them, with a `From` of their own each way; satellite, week and time, and the two lent buffers, one by one, as C hands
-// them over; zeros where there is none, since a C record has no Option.
+// them over, and which buffer is meant as a bool; zeros where there is none, since a C record has no Option.
 ghost use Rattle.std.specs.Prelude.{◌≡◌, replicate};
 ghost use Rattle.probe.specs.Subframe.{collector_of, record_of, message_of, SubframeNew, SubframeFeed, SubframeFeedAll};
 ghost use Rattle.probe.specs.Subframe.{SubframeView, SubframeCameOut, SubframeHkrootMessage, WordTake};
