@@ -44,7 +44,7 @@
  *   it says a size or a count: then a reserved number is refused with 6.
  * - Nothing is kept between calls and no memory is allocated. Every call ends. The functions may be
  *   called from any thread and from interrupts, also while another call runs.
- * - A call takes at most 128 bytes of stack, its return address among them (measured: 80). They may
+ * - A call takes at most 128 bytes of stack, its return address among them (measured: 88). They may
  *   lie below the stack pointer, in the red zone of the calling convention: whoever interrupts a
  *   call leaves it alone. Vector registers are used, as by any function of that convention.
  *
