@@ -28,8 +28,7 @@ pub struct Told {
     pub third: u64,
 }
 
-// The bytes go to the front of the output, where it has room for all of them.
-#[tactic(auto, unfolding(crate::specs::Telling::copied_to))]
+// The bytes go to the front of the output, where it has room for all of them. A loop: the library's copy calls `memmove`, which no archive for C asks for.
 pub(crate) fn copy(bytes: &[u8], out: &mut [u8])
     ensures { out.new ≡ copied_to out.old bytes.now }
 {
@@ -37,7 +36,9 @@ pub(crate) fn copy(bytes: &[u8], out: &mut [u8])
     if out.len() < many {
         return;
     }
-    out[..many].copy_from_slice(bytes);
+    for i in 0..many {
+        out[i] = bytes[i];
+    }
 }
 
 // One teller a type, a match each: told by one function that is handed what to tell of a value, each would need its own law (not plainer).

@@ -57,10 +57,12 @@ pub(crate) fn put_number(dsm: &mut [u8], at: usize, many: usize, n: u64)
     put(dsm, at, &bytes[8 - many..]);
 }
 
-// Bytes from byte `at` on.
+// Bytes from byte `at` on. A loop: the library's copy calls `memmove`, which no archive for C asks for.
 pub(crate) fn put(dsm: &mut [u8], at: usize, from: &[u8])
     requires { at + length from.now ≤ length dsm.old }
     ensures { dsm.new ≡ put_at dsm.old at from.now }
 {
-    dsm[at..at + from.len()].copy_from_slice(from);
+    for i in 0..from.len() {
+        dsm[at + i] = from[i];
+    }
 }

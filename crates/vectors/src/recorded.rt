@@ -16,6 +16,32 @@ fn is_boundary_only(r: Record) -> bool {
     matches!(r.function, 1..=6 | 70..=72) && 255 < r.a
 }
 
+// The bytes of a key of so many bits; 0, which is no key's size, where they are not whole: a number, since it is asked with, and refused, as one.
+fn bytes_of(bits: u64) -> u64 {
+    if bits % 8 != 0 {
+        return 0;
+    }
+    bits / 8
+}
+
+// The Rust counts a key's size in bits, `layouts` in bytes. Here, and nowhere else, a record's becomes bytes: the size that functions
+// 50 to 59, 100 and 101 take, and the one that function 15 gives.
+// By the number in the file, as `answer`.
+fn in_bytes(r: Record) -> Record {
+    match r.function {
+        50..=59 | 100 | 101 => {
+            let a = bytes_of(r.a as u64) as usize;
+            Record { a, ..r }
+        }
+        15 => {
+            let [v0, v1, v2] = r.values;
+            let values = [bytes_of(v0), v1, v2];
+            Record { values, ..r }
+        }
+        _ => r,
+    }
+}
+
 // The sizes of its chain that a record of a MACK message has.
 fn sizes(r: Record) -> Sizes {
     Sizes {
@@ -70,5 +96,5 @@ fn asked(r: Record, body: &mut [u8]) -> Option<Found> {
 }
 
 pub(crate) fn all<R: Print + Files>(rt: &R, path: &str) -> io::Result<Tally> {
-    replayed::all(rt, path, is_boundary_only, asked)
+    replayed::all(rt, path, is_boundary_only, in_bytes, asked)
 }

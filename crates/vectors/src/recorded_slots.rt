@@ -6,7 +6,7 @@ use layouts::mack::{Mack, Sizes};
 use layouts::maclt;
 use layouts::maclt::MacLTSlot;
 use layouts::tag_info::Adkd;
-use recorder::slots::Verdict;
+use recorder::slots::{TagField, Verdict};
 use recorder::{timing, walk};
 
 // Whether the tag stands at 04S, the only slot of ADKD 4.
@@ -86,12 +86,19 @@ pub(crate) fn exchange(msg: &mut [u8], tag_bits: usize) {
     }
 }
 
+fn field_number(field: TagField) -> u64 {
+    match field {
+        TagField::Adkd => 1,
+        TagField::Prnd => 2,
+    }
+}
+
 // The verdict on a message of which only tag `n` can break its slot.
 fn judged(slots: Verdict, n: usize) -> Option<Found> {
     match slots {
         Verdict::AllFit => Some(found::value(0)),
         Verdict::Breaks { tag, field } => Some(found::values(
-            field as u64,
+            field_number(field),
             0,
             0,
             usize::from(tag) == n,

@@ -2,13 +2,31 @@
 use crate::found;
 use crate::found::Found;
 use layouts::maclt;
-use layouts::maclt::MacLTSlot;
+use layouts::maclt::{AuthObject, MacLTSlot};
+use layouts::tag_info::Adkd;
+
+// 16 is no ADKD: a slot is never Reserved.
+fn adkd_number(adkd: Adkd) -> u64 {
+    match adkd {
+        Adkd::InavCed => 0,
+        Adkd::InavTiming => 4,
+        Adkd::SlowMac => 12,
+        Adkd::Reserved => 16,
+    }
+}
+
+fn object_number(object: AuthObject) -> u64 {
+    match object {
+        AuthObject::SelfAuth => 0,
+        AuthObject::CrossAuth => 1,
+    }
+}
 
 fn entry(id: u8, msg: usize, tag: usize) -> Found {
     match maclt::get_maclt_entry(id, msg, tag) {
         Ok(MacLTSlot::Flex) => found::value(1),
         Ok(MacLTSlot::Fixed { adkd, object }) => {
-            found::values(0, adkd as u64, object as u64, true)
+            found::values(0, adkd_number(adkd), object_number(object), true)
         }
         Err(refusal) => found::refused(refusal, true),
     }

@@ -4,6 +4,7 @@ use crate::found::Found;
 use crate::records::{Call, Record};
 use dsms::dsm;
 use dsms::dsm::{CollectDsm, CompleteDsm};
+use layouts::dsm_header::DsmType;
 use layouts::gst::Stamp;
 use layouts::part::Part;
 use layouts::refusal::Refusal;
@@ -38,10 +39,13 @@ fn page_found(answer: Result<Option<Pair>, Refusal>, fits: bool, zeros: bool) ->
 fn block_found(answer: Result<Option<CompleteDsm>, Refusal>, fits: bool) -> Found {
     match answer {
         Ok(Some(complete)) => {
-            let kind = complete.dsm_type as u8;
+            let kind = match complete.dsm_type {
+                DsmType::Kroot => 0,
+                DsmType::Pkr => 1,
+            };
             found::values(
                 1,
-                u64::from(complete.id) * 2 + u64::from(kind),
+                u64::from(complete.id) * 2 + kind,
                 complete.bytes as u64,
                 fits,
             )

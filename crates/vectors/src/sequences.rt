@@ -12,6 +12,7 @@ pub(crate) fn all<R: Print + Files>(rt: &R, path: &str) -> io::Result<Tally> {
         rt,
         path,
         |_| false,
+        |r| r,
         |r, body| held.answer(records::split(r, body)?),
     )
 }
