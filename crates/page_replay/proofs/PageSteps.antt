@@ -22,12 +22,16 @@ use Rattle.page_replay.specs.Replay.{Time, later, State, new, Begun, begun, Dsm,
 use Rattle.page_replay.specs.Replay.{passed_on, skipped, counted, fed_page, fed, page_step, and_then}
 use Rattle.subframes.specs.Subframe.{ask_checks, used_answer, Page, Fed as SubframesFed, feed as feed_page}
 use Rattle.dsms.specs.Dsm.{Fed as DsmsFed}
-use Rattle.subframes.specs.SubframePromises.{IsUsed, meaning_word, call}
+use Rattle.subframes.specs.SubframePromises.{IsUsed, meaning_subframe, meaning_word, call}
 use Rattle.subframes.specs.SubframePromises.{state as subframe_state}
+use Rattle.dsms.specs.DsmPromises.{state as dsm_state}
 use Rattle.page_replay.specs.ReplayPromises.{state, meaning_subframes, meaning_dsms}
 use Rattle.page_replay.specs.inner.Steps.{AtMostOne}
 use Rattle.subframes.proofs.SubframeUsed.{used_alone}
 use Rattle.subframes.specs.declared.subframe.CollectSubframe.{CollectSubframe}
+use Rattle.subframes.specs.declared.subframe.Pair.{Pair}
+use Rattle.subframes.specs.declared.subframe.Pair.TheVariants.{Silent}
+use Rattle.dsms.specs.declared.dsm.CollectDsm.{CollectDsm}
 use Rattle.page_replay.specs.declared.replay.PageReplay.{PageReplay}
 use Rattle.page_replay.specs.declared.replay.SubframeDone.{SubframeDone}
 use Rattle.page_replay.specs.declared.replay.DsmDone.{DsmDone}
@@ -84,6 +88,13 @@ used_asked c h m bytes n w t x e f = f ∙ ap is_taken e ∙ ap asked (used_alon
         let q = refusal (ask_checks (subframe_state c [] []) (call [] n w t)) in
         is_taken (cond (eqb q 0) (cond b (gives []) nothing) (refused q))
 
+-- A silent pair goes no further: the DSM collector is fed nothing.
+pub passed_silent :
+    {x : Result (Option Pair) Refusal} (c : CollectSubframe) (h k : List ℕ) (n : ℕ) (d : CollectDsm) (m : List ℕ) {w t : ℕ} → x ≡ Ok (Some (Silent w t))
+    → ◌≡◌ {A = DsmsFed} (record { state = dsm_state d m; answer = nothing })
+    (passed_on (subframes_in (meaning_subframe x)) (subframe_state c h k) n (dsm_state d m))
+passed_silent c h k n d m e = rw e
+
 -- Satellite, week and time in range are not refused.
 pub start_admitted : (satellite week time : ℕ) → 1 ≤ satellite → satellite ≤ 36 → week ≤ 4095 → time ≤ 604799 → 0 ≡ refusal (svn_gst_checks satellite week time)
 start_admitted satellite week time l u v h = fits_all satellite week time (satellite_fits satellite l u) refl v h
@@ -119,6 +130,21 @@ pub one_dsm : (x y : Option DsmDone) → length (meaning_dsms x ++ meaning_dsms 
 one_dsm None y l = refl
 one_dsm (Some d) None l = refl
 one_dsm (Some d) (Some e) l = let l : 2 ≤ 1 = l in absurd (omega arith)
+
+-- the same where the second is asked first
+pub last_subframe : (x y : Option SubframeDone) → length (meaning_subframes x ++ meaning_subframes y) ≤ 1
+    → meaning_subframes (option_or y x) ≡ meaning_subframes x ++ meaning_subframes y
+last_subframe None None l = refl
+last_subframe None (Some e) l = refl
+last_subframe (Some d) None l = refl
+last_subframe (Some d) (Some e) l = let l : 2 ≤ 1 = l in absurd (omega arith)
+
+pub last_dsm : (x y : Option DsmDone) → length (meaning_dsms x ++ meaning_dsms y) ≤ 1
+    → meaning_dsms (option_or y x) ≡ meaning_dsms x ++ meaning_dsms y
+last_dsm None None l = refl
+last_dsm None (Some e) l = refl
+last_dsm (Some d) None l = refl
+last_dsm (Some d) (Some e) l = let l : 2 ≤ 1 = l in absurd (omega arith)
 
 pub one_few : (b : Bool) → one b ≤ 1
 one_few true = omega arith

@@ -1,5 +1,6 @@
 // A file of pages, replayed page by page.
 ghost use Rattle.std.specs.Prelude.{◌≡◌, [], ◌++◌, ◌+◌, ◌*◌, ◌^◌, ◌≤◌, length};
+ghost use Rattle.std.specs.Option.{option_or};
 ghost use Rattle.layouts.specs.Answer.{refusal as refusal_of};
 ghost use Rattle.layouts.specs.Refusals.{refused_by};
 ghost use Rattle.page_replay.specs.Replay.{new as new_of, and_then, replayed, pages_of, are_few, replay_checks};
@@ -100,25 +101,27 @@ pub fn new(stamp: Stamp) -> NewReplay
     }
 }
 
-// The next page after others, which complete at most one subframe and one DSM together.
-fn and_then(
-    so_far: Stepped,
-    hkroot: &mut [u8],
-    mack: &mut [u8],
-    dsm: &mut [u8],
-    page: &[u8],
-) -> Stepped
-    requires in_range { InRange so_far.replay × Room so_far.replay (2 ^ 62 + 14) × (length page.now ≡ 30) }
-    requires at_most_one { AtMostOne (and_then (ran so_far hkroot.old mack.old dsm.old) page.now) }
-    ensures { ran result hkroot.new mack.new dsm.new
-        ≡ and_then (ran so_far hkroot.old mack.old dsm.old) page.now }
+// What is completed now, where there is some, takes the place of what was completed before.
+fn keep<T: Copy>(so_far: &mut Option<T>, done: Option<T>)
+    ensures { so_far.new ≡ option_or done so_far.old }
+{
+    if done.is_some() {
+        *so_far = done;
+    }
+}
+
+// The next page after others, which complete at most one subframe and one DSM together. In place: most pages complete nothing, and what stands there then is not
+// touched. Copied at each page it waits for its own stores (docs/BENCHMARKS.md).
+fn and_then(so_far: &mut Stepped, hkroot: &mut [u8], mack: &mut [u8], dsm: &mut [u8], page: &[u8])
+    requires in_range { InRange so_far.old.replay × Room so_far.old.replay (2 ^ 62 + 14) × (length page.now ≡ 30) }
+    requires at_most_one { AtMostOne (and_then (ran so_far.old hkroot.old mack.old dsm.old) page.now) }
+    ensures { ran so_far.new hkroot.new mack.new dsm.new
+        ≡ and_then (ran so_far.old hkroot.old mack.old dsm.old) page.now }
 {
     let next = page_step::page_step(so_far.replay, hkroot, mack, dsm, page);
-    Stepped {
-        replay: next.replay,
-        subframe: so_far.subframe.or(next.subframe),
-        dsm: so_far.dsm.or(next.dsm),
-    }
+    so_far.replay = next.replay;
+    keep(&mut so_far.subframe, next.subframe);
+    keep(&mut so_far.dsm, next.dsm);
 }
 
 // The first `n` pages. By number, and no chunks: each turn is proved of the first `k` pages of the slice, and changes the record and the lent memory.
@@ -142,7 +145,7 @@ fn run(
     for k in 0..n {
         let start = 30 * k;
         let end = start + 30;
-        so_far = and_then(so_far, hkroot, mack, dsm, &pages[start..end]);
+        and_then(&mut so_far, hkroot, mack, dsm, &pages[start..end]);
     }
     so_far
 }

@@ -13,8 +13,8 @@ pub loop-k-init : goal.loop-k-init
 unfolding replayed pages_of
 loop-k-init c = refl
 
-pub and_then-so_far-requires : goal.and_then-so_far-requires
-and_then-so_far-requires c =
+pub and_then-requires : goal.and_then-requires
+and_then-requires c =
     let first = sound_first c.args.«record» _ _ _ c.requires.0 c.requires.1 in
     let h = c.loop-k in record {
       in_range = (
@@ -27,10 +27,10 @@ and_then-so_far-requires c =
 
 pub loop-k-preserved : goal.loop-k-preserved
 loop-k-preserved c =
-    let p = c.and_then-so_far in
+    let p = c.and_then in
     let h = c.loop-k in
     turn_again (state c.args.«record» c.args.hkroot.now c.args.mack.now c.args.dsm.now) c.args.pages.now h.k h.so_far h.hkroot h.mack h.dsm h.invariant (slice_30 c.args.pages.now h.k)
-    {y = ran p.result p.new.hkroot p.new.mack p.new.dsm} p.ensures
+    {y = ran p.new.so_far p.new.hkroot p.new.mack p.new.dsm} p.ensures
 
 pub returns : goal.returns
 returns c =
