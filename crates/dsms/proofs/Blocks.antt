@@ -6,6 +6,7 @@ use mathlib.Core.Bool.{Bool, true, false, cond, not, ◌&&◌}
 use Prim.Native.Nat.{ℕ, zero, suc, ◌+◌, ◌-◌, ◌*◌, ◌≤◌, ◌<◌}
 use native.Mathlib.Nat.{zero-add, suc-add}
 use native.Mathlib.Omega.{arith}
+use native.Mathlib.Numerals.{add-one}
 use lib.Dec.{ltb, eqb, eqb-suc-zero}
 use lib.ListN.{length, get_or, set, take, drop}
 use borrow.Rule.Slice.PartMut.{put_mid}
@@ -139,6 +140,10 @@ legal_none zero e = refl
 legal_none (suc k) e = let z : ◌≡◌ {A = ℕ} 0 1 = cc in absurd (omega arith)
 
 -- The blocks that are held.
+pub held_more : (held : List Bool) (i : ℕ) → all_held held i ≡ true → not (get_or held i false) ≡ false → all_held held (i + 1) ≡ true
+unfolding all
+held_more held i e h = rw (add-one i, e, not-false (get_or held i false) h)
+
 every_held : (held : List Bool) (n : ℕ) → ((k : ℕ) → k < n → get_or held k false ≡ true) → all_held held n ≡ true
 unfolding all
 every_held held zero f = refl

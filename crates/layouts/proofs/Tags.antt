@@ -1,15 +1,17 @@
 -- Laws of MACK messages.
 -- Assumes nothing.
 use mathlib.Core.Path.{◌≡◌, refl, sym, ap, ◌∙◌}
+use mathlib.Core.Logic.{⊎_elim, inl, inr}
 use mathlib.Core.Bool.{Bool, true, false, cond, not}
 use mathlib.Core.List.{List, [], ◌∷◌, ◌++◌}
 use Prim.Native.Nat.{ℕ, zero, suc, ◌+◌, ◌-◌, ◌*◌, ◌/◌, ◌%◌, ◌^◌, ◌≤◌, ◌<◌}
 use native.Mathlib.Nat.{mul_assoc, div-mul-le_self, mul-le-mul_left, mul-le-mul_right, add-mul, one-mul, zero-mul, le_of_suc-le-suc, not-suc-le-zero}
 use native.Mathlib.Omega.{arith}
 use lib.Dec.{T, leb, eqb, leb→le, eqb→eq}
-use lib.ListN.{length, get_or, take, drop, set}
+use lib.ListN.{length, get_or, take, drop, set, length-set}
 use lib.Seq.{take_all, drop-cons}
-use borrow.Author.Tests.{eqb-true, leb-false, eq-eqb, ne_eqb, lt-ltb, le-ltb, le-leb, lt-leb, not-false}
+use types.Run.{OneOf}
+use borrow.Author.Tests.{eqb-true, eqb-false, leb-false, eq-eqb, ne_eqb, lt-ltb, le-ltb, le-leb, lt-leb, not-false}
 use Rattle.layouts.specs.Answer.{Answer, refused, gives, Copied, ◌when◌, refusal, answered}
 use Rattle.layouts.specs.Bits.{field, bytes_from}
 use Rattle.layouts.specs.Sizes.{key_sizes, tag_sizes}
@@ -26,6 +28,60 @@ use Rattle.layouts.proofs.Fields.{field_byte, field_across}
 use Rattle.layouts.proofs.Readers.{first_of}
 use Rattle.layouts.proofs.Copies.{copy_more, copy_all}
 use Rattle.layouts.proofs.Tables.{both_left, both_right, every}
+
+-- a size in a list, from the code's match
+in_later : (n s : ℕ) (ss : List ℕ) → OneOf (s ∷ ss) n → true ≡ listed n (s ∷ ss)
+unfolding listed
+in_later n s [] e = rw (eq-eqb n s e)
+in_later n s (t ∷ ss) e = ⊎_elim (λ h. rw (eq-eqb n s h)) (λ h. go (eqb n s) (in_later n t ss h)) e
+  where
+    go : (b : Bool) → true ≡ listed n (t ∷ ss) → true ≡ cond b true (listed n (t ∷ ss))
+    go true h = refl
+    go false h = h
+
+pub in_list : (n : ℕ) (ss : List ℕ) → OneOf ss n → true ≡ listed n ss
+in_list n [] e = absurd e
+in_list n (s ∷ ss) e = in_later n s ss e
+
+out_later : (n s : ℕ) (ss : List ℕ) → (OneOf (s ∷ ss) n → ⊥) → false ≡ listed n (s ∷ ss)
+unfolding listed
+out_later n s [] e = rw (ne_eqb n s e)
+out_later n s (t ∷ ss) e = rw (ne_eqb n s (λ h. e (inl h))) (out_later n t ss (λ h. e (inr h)))
+
+pub not_in_list : (n : ℕ) (ss : List ℕ) → (OneOf ss n → ⊥) → false ≡ listed n ss
+unfolding listed
+not_in_list n [] e = refl
+not_in_list n (s ∷ ss) e = out_later n s ss e
+
+-- Numbers in a row are one range to the code's match: a list that begins with `many` of them, from `lo` on.
+abbrev row_then : ℕ → ℕ → List ℕ → List ℕ
+row_then lo zero ss = ss
+row_then lo (suc many) ss = lo ∷ row_then (suc lo) many ss
+
+pub in_row : (lo many n : ℕ) (ss : List ℕ) → lo ≤ n → n < lo + many → true ≡ listed n (row_then lo many ss)
+unfolding listed
+in_row lo zero n ss l h = absurd (omega arith)
+in_row lo (suc many) n ss l h = go (eqb n lo) refl (λ r. in_row (suc lo) many n ss r (omega arith))
+  where
+    go : (b : Bool) → eqb n lo ≡ b → (suc lo ≤ n → true ≡ listed n (row_then (suc lo) many ss))
+        → true ≡ cond b true (listed n (row_then (suc lo) many ss))
+    go true e more = refl
+    go false e more = more (omega (arith, eqb-false n lo e))
+
+pub behind_row : (lo many n : ℕ) (ss : List ℕ) → OneOf ss n → true ≡ listed n (row_then lo many ss)
+unfolding listed
+behind_row lo zero n ss e = in_list n ss e
+behind_row lo (suc many) n ss e = go (eqb n lo) (behind_row (suc lo) many n ss e)
+  where
+    go : (b : Bool) → true ≡ listed n (row_then (suc lo) many ss) → true ≡ cond b true (listed n (row_then (suc lo) many ss))
+    go true more = refl
+    go false more = more
+
+pub not_in_row : (lo many n : ℕ) (ss : List ℕ) → (OneOf ss n → ⊥) → (lo ≤ n → lo + many ≤ n) → false ≡ listed n (row_then lo many ss)
+unfolding listed
+not_in_row lo zero n ss e h = not_in_list n ss e
+not_in_row lo (suc many) n ss e h =
+    rw (ne_eqb n lo (λ z. omega (arith, h (omega arith)))) (not_in_row (suc lo) many n ss e (λ l. omega (arith, h (omega arith))))
 
 -- a test of every number of a list is a test of any that is listed
 pub of_listed : (test : ℕ → Bool) (n : ℕ) (ss : List ℕ) → T (every test ss) → listed n ss ≡ true → T (test n)
@@ -231,11 +287,49 @@ whole_bytes m f (suc n) h small =
     (whole_bytes m (suc f) n (omega arith) small ∙ ap (λ (s : ℕ). bytes_from m s n) place)
     )
 
--- A loop that copies each from half a byte in into `d`: so far `i` of them, and `d` has become `now`.
+-- A loop that copies them into `d`, those from bit `s` on: so far `i` of them, and `d` has become `now`.
+pub record Begun (m d : List ℕ) (s i : ℕ) (now : List ℕ) : Type 0 where
+  pub few : i ≤ length d
+  pub long : length now ≡ length d
+  pub bytes : now ≡ take i (bytes_from m s (length d)) ++ drop i d
+
+pub key_begun : (m d : List ℕ) (s : ℕ) → Begun m d s 0 d
+key_begun m d s = record { few = omega arith; long = refl; bytes = refl }
+
+module _ {m d now : List ℕ} {s i : ℕ} (e : Begun m d s i now) where
+  key_turn : {b : ℕ} → i < length d → b ≡ field m (s + 8 * i) 8 → Begun m d s (i + 1) (set now i b)
+  key_turn {b} h eb =
+      let l : List ℕ = bytes_from m s (length d) in
+      let here : i < length l = rw (bytes_long m s (length d)) h in
+      record {
+        few = omega arith;
+        long = length-set now i b ∙ e.long;
+        bytes = rw (e.bytes, eb, ← byte_of m s (length d) i h) (copy_more l d i here h);
+      }
+
+  pub key_copied_lem : length d ≤ i → now ≡ bytes_from m s (length d)
+  key_copied_lem h =
+      e.bytes ∙ copy_all (bytes_from m s (length d)) d i h
+      ∙ take_all i (bytes_from m s (length d)) (rw (bytes_long m s (length d)) h)
+
+-- a turn from a whole byte on, and one from half a byte in
+pub whole_turn : (m d now : List ℕ) (f i : ℕ) → Begun m d (8 * f) i now → i < length d → get_or m (f + i) 0 < 2 ^ 8
+    → Begun m d (8 * f) (i + 1) (set now i (get_or m (f + i) 0))
+whole_turn m d now f i e h small =
+    let place : 8 * (f + i) ≡ 8 * f + 8 * i = omega arith in
+    key_turn e h (sym (field_byte m (f + i) small) ∙ ap (λ (n : ℕ). field m n 8) place)
+
+pub half_turn : (m d now : List ℕ) (f i : ℕ) {b : ℕ} → Begun m d (8 * f + 4) i now → i < length d → get_or m (f + i + 1) 0 < 2 ^ 8
+    → b ≡ get_or m (f + i) 0 % 16 * 16 + get_or m (f + i + 1) 0 / 16 → Begun m d (8 * f + 4) (i + 1) (set now i b)
+half_turn m d now f i e h small eb =
+    let place : 8 * (f + i) + 4 ≡ 8 * f + 4 + 8 * i = omega arith in
+    key_turn e h (eb ∙ sym (field_across m (f + i) small) ∙ ap (λ (n : ℕ). field m n 8) place)
+
+-- The same of the bytes alone, where each is copied from half a byte in.
 module _ (m d now : List ℕ) (f i : ℕ) (e : now ≡ take i (bytes_from m (8 * f + 4) (length d)) ++ drop i d) where
-  pub half_turn : {b : ℕ} → i < length d → get_or m (f + i + 1) 0 < 2 ^ 8 → b ≡ get_or m (f + i) 0 % 16 * 16 + get_or m (f + i + 1) 0 / 16
+  pub half_more : {b : ℕ} → i < length d → get_or m (f + i + 1) 0 < 2 ^ 8 → b ≡ get_or m (f + i) 0 % 16 * 16 + get_or m (f + i + 1) 0 / 16
       → set now i b ≡ take (i + 1) (bytes_from m (8 * f + 4) (length d)) ++ drop (i + 1) d
-  half_turn h small eb =
+  half_more h small eb =
       let l : List ℕ = bytes_from m (8 * f + 4) (length d) in
       let here : i < length l = rw (bytes_long m (8 * f + 4) (length d)) h in
       let place : 8 * (f + i) + 4 ≡ 8 * f + 4 + 8 * i = omega arith in

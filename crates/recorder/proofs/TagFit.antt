@@ -5,12 +5,13 @@ use mathlib.Core.Bool.{Bool, true, false, cond, not}
 use mathlib.Core.List.{[], ◌∷◌}
 use Prim.Native.Nat.{ℕ, ◌≤◌, ◌<◌}
 use native.Mathlib.Omega.{arith}
-use lib.Dec.{eqb}
+use lib.Dec.{leb, eqb}
 use borrow.Author.Tests.{eq-eqb, ne_eqb, lt-leb, le-leb}
-use Rattle.layouts.specs.Answer.{gives, refusal, answered}
-use Rattle.std.specs.Prelude.{Result, Ok, Option}
+use Rattle.layouts.specs.Answer.{gives, refused, refusal, answered}
+use Rattle.std.specs.Prelude.{Result, Ok, Err, Option}
 use Rattle.std.specs.Result.{IsOk}
 use Rattle.layouts.specs.Meaning.{meaning_number, object_number, slot_numbers, meaning_slot}
+use Rattle.layouts.specs.Refusals.{refusal_number}
 use Rattle.layouts.specs.declared.refusal.Refusal.{Refusal}
 use Rattle.layouts.specs.Maclt.{Slot, fixed, flex, numbers, entry, entry_checks}
 use Rattle.layouts.specs.declared.tag_info.Adkd.TheVariants.{InavCed, InavTiming, SlowMac, Reserved}
@@ -24,6 +25,22 @@ use Rattle.recorder.specs.inner.Code.{adkd_number, slot_of, field_or_0}
 use Rattle.recorder.specs.declared.slots.TagField.{TagField}
 use Rattle.layouts.proofs.Given.{not_refused, given_is}
 
+-- A number that is not refused: its value.
+pub value_of : (q w : ℕ) {x : Result ℕ Refusal} {v : ℕ} → q ≡ 0 → meaning_number x ≡ answered q (gives (w ∷ [])) → x ≡ Ok v → v ≡ w
+unfolding answered
+value_of q w {x} {v} z e g =
+    let f : gives (v ∷ []) ≡ answered q (gives (w ∷ [])) = rw g at e in
+    let h : gives (v ∷ []) ≡ gives (w ∷ []) = rw z at f in
+    cc
+
+pub value_none : (q w : ℕ) {x : Result ℕ Refusal} {n : Refusal} {r : ℕ} → q ≡ 0 → meaning_number x ≡ answered q (gives (w ∷ [])) → x ≡ Err n → r ≡ w
+unfolding answered
+value_none q w {x} {n} {r} z e g =
+    let f : refused (refusal_number n) ≡ answered q (gives (w ∷ [])) = rw g at e in
+    let h : refused (refusal_number n) ≡ gives (w ∷ []) = rw z at f in
+    let y : ◌≡◌ {A = ℕ} 0 1 = cc in
+    absurd (omega arith)
+
 -- PRND against the object.
 pub self_timing : {o : AuthObject} {a : ℕ} (s p : ℕ) → o ≡ SelfAuth → a ≡ 4 → eqb p 255 ≡ prnd_fits a (object_number o) s p
 unfolding prnd_fits
@@ -36,6 +53,10 @@ self_other a s p eo ne = rw (eo, ne_eqb a 4 ne)
 pub cross_low : {o : AuthObject} (a s p : ℕ) → o ≡ CrossAuth → p < 1 → false ≡ prnd_fits a (object_number o) s p
 unfolding prnd_fits
 cross_low a s p eo l = rw (eo, lt-leb 1 p l)
+
+pub cross_some : {o : AuthObject} (a s p : ℕ) → o ≡ CrossAuth → 1 ≤ p → leb p 36 ≡ prnd_fits a (object_number o) s p
+unfolding prnd_fits
+cross_some a s p eo l = rw (eo, le-leb 1 p l)
 
 pub cross_above : {o : AuthObject} (a s p : ℕ) → o ≡ CrossAuth → 1 ≤ p → 36 < p → false ≡ prnd_fits a (object_number o) s p
 unfolding prnd_fits

@@ -106,14 +106,14 @@ module _ (messages times : ℕ) (o : Storage) where
   places_are h e = rw (lt-ltb o.current times h) e
 
 -- the lowest place with a time, from a search that ended at it, or at none
-pub reaches : (r : MackStorage) (week time : ℕ) (q : Option ℕ) → length r.places ≡ 12
+pub reaches : (times : ℕ) (r : MackStorage) (week time : ℕ) (q : Option ℕ) → length r.places ≡ times
     → MatchOption q (AllWithin (λ (p : Place). is_time p.timed p.week p.tow week time ≡ false) r.places 0 (length r.places))
     (λ i.
     (i < length r.places) × HoldsAt (λ (p : Place). is_time p.timed p.week p.tow week time ≡ true) r.places i
     × AllWithin (λ (p : Place). is_time p.timed p.week p.tow week time ≡ false) r.places 0 i)
-    → Reaches (storage_of r) week time q
+    → Reaches times (storage_of r) week time q
 unfolding reached
-reaches r week time q l f = go q f
+reaches times r week time q l f = go q f
   where
     same : (p : ℕ) → has_time (storage_of r) week time p ≡ is_time (nth r p).timed (nth r p).week (nth r p).tow week time
     same p = let h = place_is r p in rw (h.timed_is, h.week_is, h.tow_is)
@@ -123,11 +123,11 @@ reaches r week time q l f = go q f
         (λ i.
         (i < length r.places) × HoldsAt (λ (p : Place). is_time p.timed p.week p.tow week time ≡ true) r.places i
         × AllWithin (λ (p : Place). is_time p.timed p.week p.tow week time ≡ false) r.places 0 i)
-        → Reaches (storage_of r) week time q
+        → Reaches times (storage_of r) week time q
     go None f =
-        rw (first_past (has_time (storage_of r) week time) 12 0 (λ k a b. same k ∙ f k nowhere a (omega (arith, l)))) (omega arith)
+        rw (first_past (has_time (storage_of r) week time) times 0 (λ k a b. same k ∙ f k nowhere a (omega (arith, l)))) (omega arith)
     go (Some i) f = (
-      sym (first_is (has_time (storage_of r) week time) 12 0 i (omega arith) (omega (arith, l, f.0)) (same i ∙ f.1 nowhere) (λ k a b. same k ∙ f.2 k nowhere a b)),
+      sym (first_is (has_time (storage_of r) week time) times 0 i (omega arith) (omega (arith, l, f.0)) (same i ∙ f.1 nowhere) (λ k a b. same k ∙ f.2 k nowhere a b)),
       omega (arith, l, f.0),
     )
 

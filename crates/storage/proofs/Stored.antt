@@ -235,6 +235,6 @@ unfolding get
 get_refused messages times o a r e i h = rw (carried r i) (err_answer _ _ e h)
 
 -- what the search of the places told
-module _ (o : Storage) (a : Asked) where
-  pub reached_some : (r : Option ℕ) {p : ℕ} → Reaches o a.week a.time r → r ≡ Some p → (p ≡ reached 12 o a.week a.time) × (p < 12)
-  reached_some r h q = subst (Reaches o a.week a.time) q h
+module _ (times : ℕ) (o : Storage) (a : Asked) where
+  pub reached_some : (r : Option ℕ) {p : ℕ} → Reaches times o a.week a.time r → r ≡ Some p → (p ≡ reached times o a.week a.time) × (p < times)
+  reached_some r h q = subst (Reaches times o a.week a.time) q h

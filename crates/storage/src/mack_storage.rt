@@ -157,7 +157,7 @@ impl MackStorage {
 
     // The lowest-numbered place with that time.
     fn lowest(&self, week: u16, time: u32) -> Option<usize>
-        ensures { Reaches (storage_of self.now) week time result }
+        ensures { Reaches 12 (storage_of self.now) week time result }
     {
         self.places
             .iter()
@@ -167,7 +167,7 @@ impl MackStorage {
     // The first message of the satellite in a place.
     fn find(&self, p: usize, satellite: u8) -> Option<MackFound>
         requires { (p < 12) × (get_or (storage_of self.now).counts p 0 ≤ 36) }
-        ensures { FindsFirst (storage_of self.now) p satellite result }
+        ensures { FindsFirst 36 (storage_of self.now) p satellite result }
     {
         let first = 36 * p;
         let here = &self.satellites[first..first + usize::from(self.places[p].count)];

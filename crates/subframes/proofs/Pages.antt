@@ -237,6 +237,10 @@ pub zeros_none : true ≡ zeros []
 unfolding zeros
 zeros_none = refl
 
+pub zeros_end : (l : List ℕ) (first : ℕ) {i many : ℕ} (any : ℕ) → i ≤ many → many ≤ i → eqb any 0 ≡ zeros (take i (drop first l))
+    → eqb any 0 ≡ zeros (take many (drop first l))
+zeros_end l first {i} {many} any few all e = let same : i ≡ many = omega arith in e ∙ ap (λ (n : ℕ). zeros (take n (drop first l))) same
+
 pub zeros_turn : (l : List ℕ) (i any : ℕ) → i < length l → eqb any 0 ≡ zeros (take i l) → eqb (bit_or any (get_or l i 0)) 0 ≡ zeros (take (i + 1) l)
 zeros_turn l i any h e =
     let next : i + 1 ≡ suc i = omega arith in

@@ -121,7 +121,7 @@ unfolding answered
 same_answer zero a b f = f refl
 same_answer (suc q) a b f = rw eqb-suc-zero
 
-uncapped :
+pub uncapped :
     (x y z : ℕ) {u v w : ℕ} {r : Answer} → u ≡ min x most → v ≡ min y most → w ≡ min z most
     → r ≡ answered (refusal (svn_gst_checks u v w)) (gives (u ∷ v ∷ w ∷ []))
     → r ≡ answered (refusal (svn_gst_checks x y z)) (gives (x ∷ y ∷ z ∷ []))

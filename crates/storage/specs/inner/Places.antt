@@ -44,10 +44,10 @@ Admits messages times o a status (Err e) = refusal_number e ≡ refusal (entry_c
 Admits messages times o a status (Ok s) =
     (0 ≡ refusal (entry_checks messages times o a status)) × (s.place ≡ place_for times o a.week a.time) × (s.number ≡ number_for o a.week a.time)
 
--- the place that asking a time reaches, of 12
-abbrev pub Reaches : Storage → ℕ → ℕ → Option ℕ → Type 0
-Reaches o week time (Some p) = (p ≡ reached 12 o week time) × (p < 12)
-Reaches o week time None = 12 ≤ reached 12 o week time
+-- the place that asking a time reaches
+abbrev pub Reaches : ℕ → Storage → ℕ → ℕ → Option ℕ → Type 0
+Reaches times o week time (Some p) = (p ≡ reached times o week time) × (p < times)
+Reaches times o week time None = times ≤ reached times o week time
 
-abbrev pub FindsFirst : Storage → ℕ → ℕ → Option MackFound → Type 0
-FindsFirst o p satellite r = meaning_found r ≡ found 36 o p satellite
+abbrev pub FindsFirst : ℕ → Storage → ℕ → ℕ → Option MackFound → Type 0
+FindsFirst messages o p satellite r = meaning_found r ≡ found messages o p satellite

@@ -22,14 +22,14 @@ pub and_then-requires : goal.and_then-requires
 and_then-requires c = λ x e.
     let o = storage_of c.args.storage in
     let a = asked_of c.args.stamp in
-    let p = reached_some o a _ c.lowest-place.ensures e in
+    let p = reached_some 12 o a _ c.lowest-place.ensures e in
     let low : x < 12 = p.1 in
     let few : get_or o.counts x 0 ≤ 36 = place_few 36 o x (legal_at_lem 36 12 o (ask_legal 36 12 o a c.in_ok-check.ensures refl) x p.1) in
     search (rules, low, few)
 
 -- the first message in the place that asking reaches, or nothing
-told : (o : Storage) (a : Asked) → 0 ≡ refusal (ask_checks 36 12 o a) → (n : Option ℕ) (q : Option MackFound) → Reaches o a.week a.time n
-    → MatchOption n (q ≡ None) (λ p. FindsFirst o p a.satellite q) → meaning_found q ≡ get 36 12 o a
+told : (o : Storage) (a : Asked) → 0 ≡ refusal (ask_checks 36 12 o a) → (n : Option ℕ) (q : Option MackFound) → Reaches 12 o a.week a.time n
+    → MatchOption n (q ≡ None) (λ p. FindsFirst 36 o p a.satellite q) → meaning_found q ≡ get 36 12 o a
 told o a e (Some p) q r h = get_there 36 12 o a e r.0 r.1 h
 told o a e None q r h = rw h (get_nowhere 36 12 o a e r)
 

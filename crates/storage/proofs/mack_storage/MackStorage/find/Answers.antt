@@ -45,7 +45,7 @@ returns-in_err-j c =
     let o = c.args.self.now in
     let p = c.args.p in
     let g = (goal.at.returns-in_err-j c).After-position in
-    subst⁻¹ (FindsFirst (storage_of o) p c.args.satellite) c.from_residual.ensures
+    subst⁻¹ (FindsFirst 36 (storage_of o) p c.args.satellite) c.from_residual.ensures
     (search_none o.satellites o.statuses (36 * p) (get_or (storage_of o).counts p 0) c.args.satellite (ends g) (here_is g) (inside g) c.in_err-j.was)
 
 pub returns : goal.returns

@@ -13,7 +13,7 @@ use Rattle.storage.proofs.mack_storage.MackStorage.lowest.Goals as goal
 pub returns : goal.returns
 returns c =
     let a = c.args in
-    reaches a.self.now a.week a.time c.position.result (search rules)
+    reaches 12 a.self.now a.week a.time c.position.result (search rules)
     (IsFirst-from_position _ _ c.position.result (λ (p : Place). is_time p.timed p.week p.tow a.week a.time ≡ true)
     (λ (p : Place). is_time p.timed p.week p.tow a.week a.time ≡ false) c.position.ensures.ran (YieldsList-from_slice a.self.now.places cc)
     (λ x q k. search (rules, tests)) (λ x q k. search (rules, tests)))
