@@ -47,4 +47,4 @@ returns c =
     let thirteen : take (13 * a.n + 13 - 13 * a.n) (drop (13 * a.n) a.dsm.now) ≡ take 13 (drop (13 * a.n) a.dsm.now) =
     let many : 13 * a.n + 13 - 13 * a.n ≡ 13 = omega arith in ap (λ (k : ℕ). take k (drop (13 * a.n) a.dsm.now)) many in
     cut_given a.dsm.now a.id a.n c.in_ok-check.ensures
-    (two_placed (the "DSM_ID" dsm_header) (the "DSM_BLOCK_ID" dsm_header) a.id a.n c.placed.ensures c.placed-2.ensures) (c.copy_from_slice.ensures.after ∙ thirteen)
+    (two_placed (the "DSM_ID" dsm_header) (the "DSM_BLOCK_ID" dsm_header) _ _ c.placed.ensures c.placed-2.ensures) (c.copy_from_slice.ensures.after ∙ thirteen)
